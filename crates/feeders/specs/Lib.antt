@@ -1,0 +1,4 @@
+pub mod Motion
+pub mod Sets
+pub mod Image
+pub mod Laws

@@ -1,0 +1,4 @@
+// The meaning of a feeder, and what can be asked of any feeder.
+mod feeder;
+
+pub use feeder::Feeder;
