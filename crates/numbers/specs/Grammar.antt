@@ -1,8 +1,8 @@
 -- The words in which the sheets' formats are written. `whole` is the sheet, `rest` what is not read yet.
 use Prim.Native.Nat.{ℕ, _-_}
-use mathlib.Core.Bool.{Bool, cond}
+use mathlib.Core.Bool.{Bool, cond, false}
 use mathlib.Core.List.{List, [], _∷_}
-use lib.Dec.{eqb}
+use lib.Dec.{eqb, leb}
 use lib.ListN.{length}
 use Rattle.std.specs.declared.result.Result.{Result}
 use Rattle.std.specs.declared.result.Result.the-variants.{Ok, Err}
@@ -52,3 +52,7 @@ ended whole (b ∷ rest) x = Err (faultAt LeftOver Sheet whole (b ∷ rest))
 abbrev pub kinded : {X : Type 0} → ℕ → List ℕ → (List ℕ → Result X Fault) → Result X Fault
 kinded k [] go = Err (cutShort Sheet [])
 kinded k (b ∷ rest) go = cond (eqb b k) (go rest) (Err (faultAt WrongKind Sheet (b ∷ rest) (b ∷ rest)))
+
+-- v is at least low and at most high
+abbrev pub within : ℕ → ℕ → ℕ → Bool
+within low high v = cond (leb low v) (leb v high) false
