@@ -1,4 +1,6 @@
-pub mod Number
-pub mod Grammar
-pub mod Spelling
+pub mod Answers
 pub mod Format
+pub mod Grammar
+pub mod Number
+pub mod Reading
+pub mod Spelling

@@ -10,7 +10,7 @@ use Rattle.feeders.specs.Motion.{Motion}
 pub record Grid : Type 0 where
   pub rows : ℕ
   pub columns : ℕ
-  pub cells : List Bool -- row by row; true is free, false is wall
+  pub cells : List Bool  -- row by row; true is free, false is wall
 
 -- how many cells are free
 abbrev pub frees : List Bool → ℕ
