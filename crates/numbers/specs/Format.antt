@@ -3,14 +3,8 @@ use mathlib.Core.Path.{_≡_}
 use mathlib.Core.List.{List}
 use Prim.Native.Nat.{ℕ}
 use Rattle.std.specs.declared.result.Result.{Result}
-use Rattle.std.specs.declared.result.Result.the-variants.{Ok, Err}
+use Rattle.std.specs.declared.result.Result.the-variants.{Ok}
 use Rattle.refusals.specs.declared.Fault.{Fault}
-
--- What filling a table answers and leaves: the table that the sheet describes; or the sheet's fault, and the table as it was.
--- `holds` is what a table holds, `sheet` what comes of the sheet.
-abbrev pub Fills : {S X U : Type 0} → (S → X) → Result X Fault → S → S → Result U Fault → Type 0
-Fills holds sheet before after (Ok u) = sheet ≡ Ok (holds after)
-Fills holds sheet before after (Err e) = (sheet ≡ Err e) × (after ≡ before)
 
 -- A sheet is accepted exactly when it is the spelling of something that keeps the rule, and then that is what is read.
 -- So whatever keeps the rule has one sheet.

@@ -2,6 +2,8 @@
 ghost use Rattle.own_feeder.specs.Dial.{dialMotion, dial-valid};
 use dial::Dial;
 use feeders::Feeder;
+use feeders::image;
+use feeders::same_feeder;
 use refusals::Refusal;
 use std::io;
 
@@ -35,6 +37,27 @@ pub impl Feeder for Dial as DialFeeder {
     }
 }
 
+// Prints where a list of actions brings all poses of the dial, as a set.
+fn show(rt: &LibcRuntime, dial: &Dial, every: u32, list: &[u8]) -> io::Result<()> {
+    match image(dial, every, list) {
+        Ok(set) => println!(rt, "{list:?} brings {every:04b} to {set:04b}"),
+        Err(refusal) => {
+            let number = refusal.number();
+            println!(rt, "{list:?} is refused by {number}")
+        }
+    }
+}
+
 fn main(rt: LibcRuntime) -> io::Result<()> {
-    println!(rt, "a dial")
+    let Some(dial) = Dial::new(4) else {
+        return println!(rt, "no dial");
+    };
+    show(&rt, &dial, 15, &[])?;
+    show(&rt, &dial, 15, &[1])?;
+    show(&rt, &dial, 15, &[1, 0, 1])?;
+    show(&rt, &dial, 15, &[1, 0, 0, 0, 1, 0, 0, 0, 1])?;
+    show(&rt, &dial, 15, &[2])?;
+    show(&rt, &dial, 16, &[0])?;
+    let same = same_feeder(&dial, &dial);
+    println!(rt, "the dial is the same feeder as itself: {same}")
 }

@@ -1,2 +1,5 @@
 pub mod Squeeze
 pub mod Sheet
+pub mod Held
+pub mod Valid
+pub mod Reading

@@ -1,2 +1,9 @@
 pub mod Tray
 pub mod Sheet
+pub mod Cells
+pub mod Sliding
+pub mod Tilting
+pub mod Directions
+pub mod Held
+pub mod Valid
+pub mod Reads

@@ -1,0 +1,3 @@
+pub mod OneGate
+pub mod Rows
+pub mod Sheets

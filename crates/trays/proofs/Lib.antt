@@ -1,0 +1,5 @@
+pub mod Relation
+pub mod Counting
+pub mod Steps
+pub mod Format
+pub mod Cellwise
