@@ -1,18 +1,13 @@
 -- Which gate an action has, and what follows a pose, by the gates as they are held.
-use Prim.Native.Nat.{ℕ, _+_, _/_, _%_, _^_, _<_}
-use mathlib.Core.Bool.{true, false, cond}
-use mathlib.Core.Path.{_≡_, refl, sym, _∙_, ap}
+use Prim.Native.Nat.{ℕ, _<_}
+use mathlib.Core.Path.{_≡_, _∙_, ap}
 use native.Mathlib.Omega.{arith}
 use lib.Dec.{ltb}
 use lib.ListN.{length, getD, take}
 use Rattle.std.proofs.shelf.Lists.{getD-take}
-use Rattle.std.proofs.shelf.Tests.{cond-true, cond-false, lt-ltb}
-use Rattle.std.specs.declared.result.Result.{Result}
-use Rattle.std.specs.declared.result.Result.the-variants.{Ok, Err}
-use Rattle.refusals.specs.declared.Refusal.{Refusal}
-use Rattle.refusals.specs.declared.Refusal.the-variants.{NoPose, NoAction}
+use Rattle.std.proofs.shelf.Tests.{cond-true, lt-ltb}
+use Rattle.std.specs.declared.result.Result.the-variants.{Ok}
 use Rattle.feeders.specs.Motion.{follows}
-use Rattle.feeders.specs.Sets.{has}
 use Rattle.gates.specs.declared.gate.Gate.{Gate}
 use Rattle.gates.specs.Gates.{idle, turned, gateMotion}
 use Rattle.gates.specs.Held.{gateAt, gatesOf}

@@ -12,14 +12,14 @@ use Rattle.std.proofs.shelf.Elements.{all-getD, all-from-getD}
 use Rattle.std.proofs.shelf.Lists.{append-nil, append-assoc, getD-take, length-take-le, take-rest}
 use Rattle.std.proofs.shelf.Tests.{cond-true, lt-ltb, ltb-true, le-leb, leb-true, eqb-true, eq-eqb}
 use Rattle.std.specs.declared.result.Result.{Result}
-use Rattle.std.specs.declared.result.Result.the-variants.{Ok, Err}
+use Rattle.std.specs.declared.result.Result.the-variants.{Ok}
 use Rattle.std.specs.shelf.Lists.{All}
 use Rattle.refusals.specs.declared.Refusal.{Refusal}
 use Rattle.refusals.specs.declared.Refusal.the-variants.{OutsideLimit, WrongKind}
 use Rattle.refusals.specs.declared.Fault.{Fault}
 use Rattle.numbers.specs.Format.{OneSheet}
 use Rattle.numbers.specs.Number.{spell}
-use Rattle.numbers.specs.Grammar.{number, tested, ended, within}
+use Rattle.numbers.specs.Grammar.{tested, ended, within}
 use Rattle.numbers.proofs.Fields.{number-only, number-spell}
 use Rattle.gates.specs.declared.gate.Gate.{Gate}
 use Rattle.gates.specs.Gates.{Gates, Keeps, idle}

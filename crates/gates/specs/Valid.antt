@@ -1,9 +1,8 @@
 -- Why a gate row is a feeder: what keeps its rule has a valid motion.
-use Prim.Native.Nat.{ℕ, _+_, _%_, _≤_, _<_, _^_}
-use mathlib.Core.Bool.{cond}
-use mathlib.Core.Path.{_≡_, sym, _∙_, ap, subst}
+use Prim.Native.Nat.{ℕ, _+_, _%_, _<_}
+use mathlib.Core.Path.{_≡_}
 use native.Mathlib.Omega.{arith}
-use lib.ListN.{length, getD, take, length-take}
+use lib.ListN.{length, getD, take}
 use Rattle.std.proofs.shelf.Bits.{mod-below}
 use Rattle.std.proofs.shelf.Lists.{length-take-le, getD-take}
 use Rattle.std.proofs.shelf.Tests.{cond-both}

@@ -1,11 +1,13 @@
 // Sheets of any kind: the kind byte chooses the reader of the fields.
 ghost use mathlib.Core.Path.{_≡_};
+ghost use Rattle.gates.specs.Sheet.{gateFields};
 ghost use Rattle.numbers.specs.Format.{OneSheet};
-ghost use Rattle.sheets.specs.Described.{Keeps, described, motionOf, spelled};
-ghost use Rattle.sheets.specs.Held.{describedBy};
+ghost use Rattle.refusals.specs.declared.Reader.the-variants.{Sheet};
+ghost use Rattle.sheets.specs.Described.{Keeps, described, jaws, motionOf, onOk, row, spelled, tray};
+ghost use Rattle.sheets.specs.Held.{Gives, describedBy};
 ghost use Rattle.sheets.specs.Valid.{sheet-valid};
-ghost use Rattle.std.specs.Results.{Cases};
-ghost use Rattle.std.specs.declared.result.Result.the-variants.{Ok, Err};
+ghost use Rattle.squeeze.specs.Sheet.{squeezeFields};
+ghost use Rattle.trays.specs.Sheet.{trayFields};
 use feeders::Feeder;
 use gates::GateRow;
 use gates::GateRowFeeder;
@@ -23,28 +25,53 @@ pub use feeder::SheetFeeder;
 
 // The feeder that a sheet describes, or the sheet's fault.
 pub fn read(sheet: &[u8]) -> Result<SheetFeeder, Fault>
-    ensures reads { λ r. ⌜ Cases r (λ f. described (now (sheet .entry)) ≡ Ok (describedBy f)) (λ e. described (now (sheet .entry)) ≡ Err e) ⌝ }
+    ensures reads { λ r. ⌜ Gives (described (now (sheet .entry))) r ⌝ }
     ensures format { λ _. ⌜ OneSheet Keeps spelled described ⌝ }
 {
-    match sheet {
-        [1, fields @ ..] => {
-            let mut table = SqueezeTable::new();
-            table.fill_fields(sheet, fields)?;
-            Ok(SheetFeeder::Squeeze(table))
-        }
-        [2, fields @ ..] => {
-            let mut tray = Tray::new();
-            tray.fill_fields(sheet, fields)?;
-            Ok(SheetFeeder::Tray(tray))
-        }
-        [3, fields @ ..] => {
-            let mut row = GateRow::new();
-            row.fill_fields(sheet, fields)?;
-            Ok(SheetFeeder::Gates(row))
-        }
-        [] => Err(at_start(Refusal::EndsEarly)),
-        _ => Err(at_start(Refusal::WrongKind)),
+    read_kind(sheet)
+}
+
+// The kind byte chooses the reader of the fields.
+fn read_kind(sheet: &[u8]) -> Result<SheetFeeder, Fault>
+    ensures { λ r. ⌜ Gives (described (now (sheet .entry))) r ⌝ }
+{
+    let [kind, fields @ ..] = sheet else {
+        return Err(at_start(Refusal::EndsEarly));
+    };
+    if *kind == 1 {
+        return read_squeeze(sheet, fields);
     }
+    if *kind == 2 {
+        return read_tray(sheet, fields);
+    }
+    if *kind == 3 {
+        return read_gates(sheet, fields);
+    }
+    Err(at_start(Refusal::WrongKind))
+}
+
+fn read_squeeze(sheet: &[u8], fields: &[u8]) -> Result<SheetFeeder, Fault>
+    ensures { λ r. ⌜ Gives (onOk jaws (squeezeFields (now (sheet .entry)) (now (fields .entry)))) r ⌝ }
+{
+    let mut table = SqueezeTable::new();
+    table.fill_fields(sheet, fields)?;
+    Ok(SheetFeeder::Squeeze(table))
+}
+
+fn read_tray(sheet: &[u8], fields: &[u8]) -> Result<SheetFeeder, Fault>
+    ensures { λ r. ⌜ Gives (onOk tray (trayFields (now (sheet .entry)) (now (fields .entry)))) r ⌝ }
+{
+    let mut table = Tray::new();
+    table.fill_fields(sheet, fields)?;
+    Ok(SheetFeeder::Tray(table))
+}
+
+fn read_gates(sheet: &[u8], fields: &[u8]) -> Result<SheetFeeder, Fault>
+    ensures { λ r. ⌜ Gives (onOk row (gateFields (now (sheet .entry)) (now (fields .entry)))) r ⌝ }
+{
+    let mut table = GateRow::new();
+    table.fill_fields(sheet, fields)?;
+    Ok(SheetFeeder::Gates(table))
 }
 
 // A fault at the kind byte.

@@ -1,6 +1,5 @@
 -- Each turn of the loop reads one gate.
 use mathlib.Core.Path.{_∙_}
-use native.Mathlib.Omega.{arith}
 use borrow.Author.Needs.{needs}
 use lib.ListN.{length-set}
 use Rattle.std.proofs.shelf.Results.{err-from-errBy}
