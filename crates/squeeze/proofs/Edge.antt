@@ -3,13 +3,13 @@ use Prim.Native.Nat.{ℕ, zero, suc, _+_, _-_, _≤_, _<_}
 use native.Mathlib.Omega.{arith}
 use mathlib.Core.Path.{_≡_, refl, sym, _∙_, ap, subst}
 use mathlib.Core.Logic.{_⊎_, inl, inr}
-use mathlib.Core.Bool.{Bool, true, false, cond}
+use mathlib.Core.Bool.{cond}
 use mathlib.Core.List.{List, [], _∷_}
 use lib.Dec.{leb}
-use lib.ListN.{length, getD}
+use lib.ListN.{length}
 use Rattle.std.proofs.shelf.Tests.{cases-bool, cases-lt, cases-order, leb-true, leb-false, cond-true, cond-false}
 use Rattle.squeeze.specs.declared.step.Step.{Step}
-use Rattle.squeeze.specs.Squeeze.{Squeeze, Keeps, StepOf, blank, begin, rest, lastNotAbove, stepOf}
+use Rattle.squeeze.specs.Squeeze.{Squeeze, Keeps, StepOf, begin, lastNotAbove, stepOf}
 use Rattle.squeeze.specs.Valid.{step-within}
 
 -- beginnings strictly rise
@@ -75,7 +75,6 @@ stepOf-is t k x =
     elim (finds (t .steps) x 0 (length (t .steps) - 1)) [
       | inl n ↦ record { there = step-within (t .steps) x (k .some-step); covers = inr (n .0 0 (k .some-step), omega (arith, n .1, k .some-step)) }
       | inr f ↦
-          let j : ℕ = f .0 in
           let e : f .0 ≡ stepOf (t .steps) x = omega (arith, f .1 .at) in
           let P : ℕ → Type 0 = λ r. StepOf (t .steps) x r in
           subst P e (record {

@@ -1,12 +1,12 @@
 -- The ghost fields of a squeeze table, from the rule of what it is to hold.
 use Prim.Native.Nat.{ℕ, suc, _+_, _-_, _≤_, _<_}
 use native.Mathlib.Omega.{arith}
-use mathlib.Core.Path.{_≡_, sym, _∙_, ap}
+use mathlib.Core.Path.{_≡_, _∙_, ap}
 use mathlib.Core.List.{List}
 use lib.ListN.{length, getD, take}
 use Rattle.std.proofs.shelf.Lists.{getD-take, length-take-le}
 use Rattle.squeeze.specs.declared.step.Step.{Step}
-use Rattle.squeeze.specs.Squeeze.{Squeeze, Keeps, blank, begin, rest}
+use Rattle.squeeze.specs.Squeeze.{Keeps, begin, rest}
 use Rattle.squeeze.specs.Valid.{begin-take, rest-take}
 
 module _ (ticks m k : ℕ) (ss : List Step) (rs : List ℕ) (all : length ss ≡ 32) (every : length rs ≡ 32) (few : m ≤ 32) (short : k ≤ 32) (rule : Keeps (record { ticks = ticks; steps = take m ss; turns = take k rs })) where

@@ -2,21 +2,20 @@
 use Prim.Native.Nat.{ℕ, suc, _+_, _%_, _≤_, _<_}
 use native.Mathlib.Omega.{arith}
 use native.Mathlib.Numerals.{add-one}
-use mathlib.Core.Path.{_≡_, refl, sym, _∙_, ap}
+use mathlib.Core.Path.{_≡_, sym, _∙_, ap}
 use mathlib.Core.Bool.{cond}
-use mathlib.Core.List.{List, [], _∷_}
+use mathlib.Core.List.{List}
 use lib.Dec.{leb, ltb}
 use lib.ListN.{length, getD, take, drop}
 use Rattle.std.specs.declared.result.Result.{Result}
-use Rattle.std.specs.declared.result.Result.the-variants.{Ok, Err}
+use Rattle.std.specs.declared.result.Result.the-variants.{Ok}
 use Rattle.std.proofs.shelf.Lists.{getD-take, length-take-le, at-drop-more, at-drop-all}
 use Rattle.std.proofs.shelf.Tests.{cond-true, lt-ltb}
 use Rattle.refusals.specs.declared.Refusal.{Refusal}
-use Rattle.refusals.specs.declared.Refusal.the-variants.{NoPose, NoAction}
-use Rattle.feeders.specs.Motion.{Motion, follows}
+use Rattle.feeders.specs.Motion.{follows}
 use Rattle.squeeze.specs.declared.step.Step.{Step}
 use Rattle.squeeze.specs.declared.table.SqueezeTable.{SqueezeTable}
-use Rattle.squeeze.specs.Squeeze.{Squeeze, blank, begin, rest, lastNotAbove, stepOf, squeezeMotion}
+use Rattle.squeeze.specs.Squeeze.{blank, begin, rest, lastNotAbove, stepOf, squeezeMotion}
 use Rattle.squeeze.specs.Held.{squeezeOf}
 use Rattle.squeeze.specs.Valid.{begin-take, rest-take}
 

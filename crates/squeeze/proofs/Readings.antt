@@ -1,22 +1,21 @@
 -- The sheet reader, field by field, reads what squeezeFields says.
-use Prim.Native.Nat.{ℕ, zero, suc, _+_, _-_, _≤_, _<_}
+use Prim.Native.Nat.{ℕ, suc, _+_, _-_, _≤_, _<_}
 use native.Mathlib.Omega.{arith}
 use mathlib.Core.Path.{_≡_, refl, sym, _∙_, ap}
-use mathlib.Core.Bool.{Bool, true, false, cond}
+use mathlib.Core.Bool.{Bool, true, false}
 use mathlib.Core.List.{List, [], _∷_, _++_}
 use lib.Dec.{ltb}
-use lib.ListN.{length, getD, take, set}
+use lib.ListN.{length, take, set}
 use Rattle.std.specs.declared.result.Result.{Result}
 use Rattle.std.specs.declared.result.Result.the-variants.{Ok, Err}
 use Rattle.std.proofs.shelf.Lists.{getD-take, getD-append-left, length-take-le, take-more-set}
 use Rattle.refusals.specs.declared.Fault.{Fault}
 use Rattle.refusals.specs.declared.Refusal.{Refusal}
-use Rattle.refusals.specs.declared.Refusal.the-variants.{OutsideLimit, OutOfOrder, LeftOver}
-use Rattle.refusals.specs.declared.Reader.the-variants.{Sheet}
+use Rattle.refusals.specs.declared.Refusal.the-variants.{OutsideLimit, OutOfOrder}
 use Rattle.numbers.specs.Number.{Read, numberAt}
-use Rattle.numbers.specs.Grammar.{number, numberFault, faultAt, tested, ended, within}
+use Rattle.numbers.specs.Grammar.{number, numberFault, tested, within}
 use Rattle.squeeze.specs.declared.step.Step.{Step}
-use Rattle.squeeze.specs.Squeeze.{Squeeze, blank, begin, rest}
+use Rattle.squeeze.specs.Squeeze.{blank, begin, rest}
 use Rattle.squeeze.specs.Sheet.{turnsLeft, follows, settles, stepsLeft, squeezeFields}
 use Rattle.squeeze.specs.Reading.{andThen, fieldAt, beginAt, Row, rowAt}
 use Rattle.squeeze.specs.Valid.{rest-take}
@@ -112,22 +111,6 @@ turns-refused whole ticks steps count i turns bytes f h e =
     ap (λ (m : ℕ). turnsLeft whole ticks steps m (take i turns) bytes) one
     ∙ turn-then whole ticks steps (count - i - 1) (take i turns) bytes
     ∙ ap (λ (r : Result Read Fault). andThen r (λ p. turnsLeft whole ticks steps (count - i - 1) (take i turns ++ (p .value ∷ [])) (p .rest))) e
-
--- after the last turn nothing is left, or something is
-pub turns-end : (whole : List ℕ) (ticks : ℕ) (steps : List Step) (count i : ℕ) (turns bytes : List ℕ) → count ≤ i → i ≤ count → turnsLeft whole ticks steps (count - i) (take i turns) bytes ≡ ended whole bytes (record { ticks = ticks; steps = steps; turns = take count turns })
-turns-end whole ticks steps count i turns bytes h l =
-    let none : count - i ≡ 0 = omega arith in
-    let all : i ≡ count = omega arith in
-    ap (λ (m : ℕ). turnsLeft whole ticks steps m (take i turns) bytes) none
-    ∙ ap (λ (m : ℕ). ended whole bytes (record { ticks = ticks; steps = steps; turns = take m turns })) all
-
-pub ended-empty : (whole bytes : List ℕ) (t : Squeeze) → length bytes ≡ 0 → ended whole bytes t ≡ Ok t
-ended-empty whole [] t h = refl
-ended-empty whole (b ∷ bytes) t h = let no : ⊥ = omega arith in elim no [ ]
-
-pub ended-over : (whole bytes : List ℕ) (t : Squeeze) → 1 ≤ length bytes → ended whole bytes t ≡ Err (faultAt LeftOver Sheet whole bytes)
-ended-over whole [] t h = let no : ⊥ = omega arith in elim no [ ]
-ended-over whole (b ∷ bytes) t h = refl
 
 -- a field that is passed, and one that is refused
 pub field-ok : {X : Type 0} (good : ℕ → Bool) (e : Refusal) (whole bytes : List ℕ) (go : ℕ → List ℕ → Result X Fault) (n : Read) → fieldAt good e whole bytes ≡ Ok n → number whole bytes (λ v after. tested (good v) e whole bytes (go v after)) ≡ go (n .value) (n .rest)

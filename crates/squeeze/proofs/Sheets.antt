@@ -1,9 +1,9 @@
 -- The format of squeeze tables: whatever keeps the rule has one sheet, and no other sheet is accepted.
-use Prim.Native.Nat.{ℕ, zero, suc, _+_, _-_, _≤_, _<_, _^_}
+use Prim.Native.Nat.{ℕ, zero, suc, _+_, _-_, _≤_, _<_}
 use native.Mathlib.Omega.{arith}
 use mathlib.Core.Path.{_≡_, refl, sym, _∙_, ap, subst}
-use mathlib.Core.Logic.{_⊎_, inl, inr}
-use mathlib.Core.Bool.{Bool, true, false, cond}
+use mathlib.Core.Logic.{inl, inr}
+use mathlib.Core.Bool.{Bool, true, false}
 use mathlib.Core.List.{List, [], _∷_, _++_, append-assoc}
 use lib.Dec.{leb, ltb, eqb}
 use lib.ListN.{length, getD, take, drop, length-append}
@@ -16,7 +16,7 @@ use Rattle.refusals.specs.declared.Fault.{Fault}
 use Rattle.refusals.specs.declared.Refusal.{Refusal}
 use Rattle.refusals.specs.declared.Refusal.the-variants.{OutsideLimit, OutOfOrder}
 use Rattle.numbers.specs.Number.{spell}
-use Rattle.numbers.specs.Grammar.{kinded, number, tested, ended, within}
+use Rattle.numbers.specs.Grammar.{tested, ended, within}
 use Rattle.numbers.specs.Format.{OneSheet}
 use Rattle.numbers.proofs.Fields.{number-spell, number-only}
 use Rattle.squeeze.specs.declared.step.Step.{Step}
@@ -78,7 +78,6 @@ turns-only whole ticks steps zero read rest t h =
     ([], record { count = refl; below = λ j l. omega arith; spelled = e .0; held = sym (e .1) ∙ ap (λ (rs : List ℕ). record { ticks = ticks; steps = steps; turns = rs }) (sym (append-nil read)) })
 turns-only whole ticks steps (suc left) read rest t h =
     let n = number-only whole rest _ t h in
-    let r : ℕ = n .0 in
     let p = tested-only (ltb (n .0) ticks) OutsideLimit whole rest _ t (n .4) in
     let more = turns-only whole ticks steps left (read ++ (n .0 ∷ [])) (n .1) t (p .1) in (
       n .0 ∷ more .0,
@@ -94,7 +93,6 @@ turns-only whole ticks steps (suc left) read rest t h =
 steps-spelled : (whole : List ℕ) (ticks k : ℕ) (ss read : List Step) (after : List ℕ) → ticks ≤ 36000 → Steps ticks (read ++ ss) → Closed ticks (read ++ ss) → stepsLeft whole ticks k (length ss) read (spellSteps ss ++ after) ≡ turnsLeft whole ticks (read ++ ss) k [] after
 steps-spelled whole ticks k [] read after few g last = ap (λ (qs : List Step). turnsLeft whole ticks qs k [] after) (sym (append-nil read))
 steps-spelled whole ticks k (s ∷ ss) read after few g last =
-    let all : List Step = read ++ (s ∷ ss) in
     let n : length (read ++ (s ∷ ss)) ≡ length read + suc (length ss) = length-append read (s ∷ ss) in
     let at : getD (read ++ (s ∷ ss)) (length read) blank ≡ s = getD-at read s ss blank (length read) refl in
     let here : begin (read ++ (s ∷ ss)) (length read) ≡ s .begin = ap (λ (q : Step). q .begin) at in

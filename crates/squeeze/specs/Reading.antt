@@ -5,7 +5,7 @@ use mathlib.Core.Bool.{Bool}
 use mathlib.Core.List.{List, []}
 use denote.Ref.{now}
 use lib.Dec.{ltb}
-use lib.ListN.{length, take}
+use lib.ListN.{take}
 use Rattle.std.specs.declared.result.Result.{Result}
 use Rattle.std.specs.declared.result.Result.the-variants.{Ok, Err}
 use Rattle.refusals.specs.declared.Fault.{Fault}
@@ -17,7 +17,6 @@ use Rattle.numbers.specs.declared.Number.{Number}
 use Rattle.squeeze.specs.declared.step.Step.{Step}
 use Rattle.squeeze.specs.declared.reading.StepRead.{StepRead}
 use Rattle.squeeze.specs.declared.reading.StepsRead.{StepsRead}
-use Rattle.squeeze.specs.Squeeze.{Squeeze}
 use Rattle.squeeze.specs.Sheet.{turnsLeft, follows, settles, stepsLeft}
 
 -- one part after another

@@ -6,7 +6,7 @@ ghost use mathlib.Core.List.{[], _++_, _∷_};
 ghost use mathlib.Core.Path.{_≡_};
 ghost use Rattle.numbers.specs.Grammar.{faultAt, within};
 ghost use Rattle.refusals.specs.declared.Reader.the-variants.{Sheet};
-ghost use Rattle.refusals.specs.declared.Refusal.the-variants.{OutOfOrder, OutsideLimit};
+ghost use Rattle.refusals.specs.declared.Refusal.the-variants.{OutsideLimit};
 ghost use Rattle.squeeze.specs.Reading.{Gives, GivesRow, GivesSteps, GivesTurns, beginAt, fieldAt, rowAt};
 ghost use Rattle.squeeze.specs.Sheet.{follows as isAbove, settles as restsRight};
 ghost use Rattle.squeeze.specs.Squeeze.{begin as beginning};

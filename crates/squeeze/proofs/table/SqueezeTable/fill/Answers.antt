@@ -1,5 +1,5 @@
 -- The kind byte goes before; the format is a theorem of its own.
-use Prim.Native.Nat.{ℕ, _≤_}
+use Prim.Native.Nat.{_≤_}
 use mathlib.Core.Path.{_≡_, subst}
 use borrow.Author.Needs.{needs}
 use lib.ListN.{length, getD}
