@@ -1,40 +1,40 @@
 -- The gates of a sheet, one by one: each from the fields of its set and its turn.
 use Prim.Native.Nat.{ℕ, suc, _+_, _-_, _^_, _<_}
 use mathlib.Core.List.{List, [], _∷_, _++_}
-use mathlib.Core.Path.{_≡_, sym, _∙_, ap, subst}
+use mathlib.Core.Path.{_≡_, sym, _∙_, ap}
 use native.Mathlib.Omega.{arith}
 use lib.Dec.{ltb}
 use lib.ListN.{length, take, set}
 use Rattle.std.proofs.shelf.Lists.{take-more-set}
 use Rattle.std.specs.declared.result.Result.{Result}
-use Rattle.std.specs.declared.result.Result.the-variants.{Err}
+use Rattle.std.specs.declared.result.Result.the-variants.{Ok, Err}
 use Rattle.refusals.specs.declared.Fault.{Fault}
+use Rattle.refusals.specs.declared.Refusal.the-variants.{OutsideLimit}
+use Rattle.numbers.specs.Grammar.{number, tested}
+use Rattle.numbers.specs.Number.{Read}
+use Rattle.numbers.proofs.Field.{field-ok, field-err, belowAt, below-is}
 use Rattle.gates.specs.declared.gate.Gate.{Gate}
-use Rattle.gates.specs.Fields.{testedField}
 use Rattle.gates.specs.Gates.{Gates}
 use Rattle.gates.specs.Sheet.{gatesLeft}
 
--- what the reader of a number below `end` says of the sheet: it goes on at v, or it has the fault e
-abbrev Goes : ℕ → List ℕ → List ℕ → ℕ → List ℕ → Type 0
-Goes end whole rest v after = (go : ℕ → List ℕ → Result Gates Fault) → testedField (λ x. ltb x end) whole rest go ≡ go v after
+-- `sets` and `turns` are the code's ends of a set and of a turn
+pub set-refused : (sets n : ℕ) (whole rest : List ℕ) (e : Fault) → sets ≡ 2 ^ n → belowAt sets whole rest ≡ Err e → (left : ℕ) (read : List Gate) → gatesLeft whole n (suc left) read rest ≡ Err e
+set-refused sets n whole rest e is h left read =
+    field-err (λ v. ltb v (2 ^ n)) OutsideLimit whole rest _ e (below-is sets (2 ^ n) whole rest (Err e) is h)
 
-abbrev Stops : ℕ → List ℕ → List ℕ → Fault → Type 0
-Stops end whole rest e = (go : ℕ → List ℕ → Result Gates Fault) → testedField (λ x. ltb x end) whole rest go ≡ Err e
+set-read : {X : Type 0} (sets n : ℕ) (whole rest : List ℕ) (go : ℕ → List ℕ → Result X Fault) (s : Read) → sets ≡ 2 ^ n → belowAt sets whole rest ≡ Ok s → number whole rest (λ v after. tested (ltb v (2 ^ n)) OutsideLimit whole rest (go v after)) ≡ go (s .value) (s .rest)
+set-read sets n whole rest go s is h =
+    field-ok (λ v. ltb v (2 ^ n)) OutsideLimit whole rest go s (below-is sets (2 ^ n) whole rest (Ok s) is h)
 
--- the code's two ends: of the sets, and of the turns
-abbrev Ends : ℕ → ℕ → ℕ → Type 0
-Ends sets turns n = (sets ≡ 2 ^ n) × (turns ≡ n)
+pub turn-refused : (sets turns n : ℕ) (whole rest : List ℕ) (s : Read) (e : Fault) → sets ≡ 2 ^ n → turns ≡ n → belowAt sets whole rest ≡ Ok s → belowAt turns whole (s .rest) ≡ Err e → (left : ℕ) (read : List Gate) → gatesLeft whole n (suc left) read rest ≡ Err e
+turn-refused sets turns n whole rest s e is is₁ h h₁ left read =
+    set-read sets n whole rest _ s is h
+    ∙ field-err (λ v. ltb v n) OutsideLimit whole (s .rest) _ e (below-is turns n whole (s .rest) (Err e) is₁ h₁)
 
-pub set-refused : (sets n : ℕ) (whole rest : List ℕ) (e : Fault) → sets ≡ 2 ^ n → Stops sets whole rest e → (left : ℕ) (read : List Gate) → gatesLeft whole n (suc left) read rest ≡ Err e
-set-refused sets n whole rest e is stops left read = subst (λ m. Stops m whole rest e) is stops _
-
-pub turn-refused : (sets turns n : ℕ) (whole rest after : List ℕ) (s : ℕ) (e : Fault) → Ends sets turns n → Goes sets whole rest s after → Stops turns whole after e → (left : ℕ) (read : List Gate) → gatesLeft whole n (suc left) read rest ≡ Err e
-turn-refused sets turns n whole rest after s e ends goes stops left read =
-    subst (λ m. Goes m whole rest s after) (ends .0) goes _ ∙ subst (λ m. Stops m whole after e) (ends .1) stops _
-
-pub gate-accepted : (sets turns n : ℕ) (whole rest r₁ r₂ : List ℕ) (s t : ℕ) → Ends sets turns n → Goes sets whole rest s r₁ → Goes turns whole r₁ t r₂ → (left : ℕ) (read : List Gate) → gatesLeft whole n (suc left) read rest ≡ gatesLeft whole n left (read ++ (record { set = s; turn = t } ∷ [])) r₂
-gate-accepted sets turns n whole rest r₁ r₂ s t ends first second left read =
-    subst (λ m. Goes m whole rest s r₁) (ends .0) first _ ∙ subst (λ m. Goes m whole r₁ t r₂) (ends .1) second _
+pub gate-accepted : (sets turns n : ℕ) (whole rest : List ℕ) (s t : Read) → sets ≡ 2 ^ n → turns ≡ n → belowAt sets whole rest ≡ Ok s → belowAt turns whole (s .rest) ≡ Ok t → (left : ℕ) (read : List Gate) → gatesLeft whole n (suc left) read rest ≡ gatesLeft whole n left (read ++ (record { set = s .value; turn = t .value } ∷ [])) (t .rest)
+gate-accepted sets turns n whole rest s t is is₁ h h₁ left read =
+    set-read sets n whole rest _ s is h
+    ∙ field-ok (λ v. ltb v n) OutsideLimit whole (s .rest) _ t (below-is turns n whole (s .rest) (Ok t) is₁ h₁)
 
 -- the gate at a, of k, in the code's words
 abbrev Turn : List ℕ → ℕ → ℕ → ℕ → List Gate → List ℕ → Result Gates Fault → Type 0

@@ -1,26 +1,22 @@
 -- A gate row that keeps its rule has one sheet that is accepted.
 use Prim.Native.Nat.{ℕ, zero, suc, _-_, _^_, _≤_, _<_}
-use mathlib.Core.Bool.{Bool, true, false, cond}
 use mathlib.Core.List.{List, [], _∷_, _++_}
 use mathlib.Core.Path.{_≡_, refl, sym, _∙_, ap, subst}
 use native.Mathlib.Omega.{arith}
-use borrow.Author.Tests.{clash}
-use lib.Dec.{eqb, leb, ltb, lit<}
-use lib.ListN.{length, getD, take, drop}
+use lib.Dec.{ltb, lit<}
+use lib.ListN.{length, getD, take}
 use lib.Pow.{pow-mono}
 use Rattle.std.proofs.shelf.Elements.{all-getD, all-from-getD}
-use Rattle.std.proofs.shelf.Lists.{append-nil, append-assoc, getD-take, length-take-le, take-rest}
-use Rattle.std.proofs.shelf.Tests.{cond-true, lt-ltb, ltb-true, le-leb, leb-true, eqb-true, eq-eqb}
-use Rattle.std.specs.declared.result.Result.{Result}
+use Rattle.std.proofs.shelf.Lists.{append-nil, append-assoc, getD-take, length-take-le}
+use Rattle.std.proofs.shelf.Tests.{lt-ltb, ltb-true}
 use Rattle.std.specs.declared.result.Result.the-variants.{Ok}
 use Rattle.std.specs.shelf.Lists.{All}
-use Rattle.refusals.specs.declared.Refusal.{Refusal}
-use Rattle.refusals.specs.declared.Refusal.the-variants.{OutsideLimit, WrongKind}
-use Rattle.refusals.specs.declared.Fault.{Fault}
+use Rattle.refusals.specs.declared.Refusal.the-variants.{OutsideLimit}
 use Rattle.numbers.specs.Format.{OneSheet}
 use Rattle.numbers.specs.Number.{spell}
-use Rattle.numbers.specs.Grammar.{tested, ended, within}
-use Rattle.numbers.proofs.Fields.{number-only, number-spell}
+use Rattle.numbers.specs.Grammar.{within}
+use Rattle.numbers.proofs.Field.{number-only, number-spell}
+use Rattle.numbers.proofs.Grammar.{tested-true, tested-only, ended-only, kinded-only, within-true, within-only}
 use Rattle.gates.specs.declared.gate.Gate.{Gate}
 use Rattle.gates.specs.Gates.{Gates, Keeps, idle}
 use Rattle.gates.specs.Sheet.{spellGates, spellRow, gatesLeft, gateFields, gateSheet}
@@ -28,30 +24,6 @@ use Rattle.gates.specs.Sheet.{spellGates, spellRow, gatesLeft, gateFields, gat
 -- a gate over n poses
 abbrev pub Fitting : ℕ → Gate → Type 0
 Fitting n g = (g .set < 2 ^ n) × (g .turn < n)
-
--- a test that is passed
-tested-on : {X : Type 0} (b : Bool) (e : Refusal) (whole rest : List ℕ) (go : Result X Fault) → b ≡ true → tested b e whole rest go ≡ go
-tested-on b e whole rest go h = cond-true b go _ h
-
-tested-only : {X : Type 0} (b : Bool) (e : Refusal) (whole rest : List ℕ) (go : Result X Fault) (x : X) → tested b e whole rest go ≡ Ok x → (b ≡ true) × (go ≡ Ok x)
-tested-only true e whole rest go x h = (refl, h)
-tested-only false e whole rest go x h = let z : _≡_ {A = ℕ} 0 1 = cc in let no : ⊥ = omega arith in elim no [ ]
-
-ended-only : {X : Type 0} (whole rest : List ℕ) (x y : X) → ended whole rest x ≡ Ok y → (rest ≡ []) × (x ≡ y)
-ended-only whole [] x y h = (refl, cc)
-ended-only whole (b ∷ rest) x y h = let z : _≡_ {A = ℕ} 0 1 = cc in let no : ⊥ = omega arith in elim no [ ]
-
-within-on : (v : ℕ) → 1 ≤ v → v ≤ 32 → within 1 32 v ≡ true
-within-on v low high = cond-true (leb 1 v) (leb v 32) false (le-leb 1 v low) ∙ le-leb v 32 high
-
-both : (x y : Bool) → cond x y false ≡ true → (x ≡ true) × (y ≡ true)
-both true y h = (refl, h)
-both false y h = elim (clash h) [ ]
-
-pub within-only : (low high v : ℕ) → within low high v ≡ true → (low ≤ v) × (v ≤ high)
-within-only low high v h =
-    let p = both (leb low v) (leb v high) h in
-    (leb-true low v (p .0), leb-true v high (p .1))
 
 -- the gates of a row are read back
 gates-accepted : (whole : List ℕ) (n : ℕ) (read gs : List Gate) → n ≤ 32 → All (Fitting n) gs → gatesLeft whole n (length gs) read (spellGates gs) ≡ Ok (record { poses = n; gates = read ++ gs })
@@ -62,9 +34,9 @@ gates-accepted whole n read (g ∷ gs) few fit =
     let whole-turn : g .turn < 2 ^ 32 = omega (arith, fit .0 .1) in
     let rest = spell (g .set) ++ (spell (g .turn) ++ spellGates gs) in
     number-spell whole (g .set) (spell (g .turn) ++ spellGates gs) _ whole-set
-    ∙ tested-on (ltb (g .set) (2 ^ n)) OutsideLimit whole rest _ (lt-ltb (g .set) (2 ^ n) (fit .0 .0))
+    ∙ tested-true (ltb (g .set) (2 ^ n)) OutsideLimit whole rest _ (lt-ltb (g .set) (2 ^ n) (fit .0 .0))
     ∙ number-spell whole (g .turn) (spellGates gs) _ whole-turn
-    ∙ tested-on (ltb (g .turn) n) OutsideLimit whole (spell (g .turn) ++ spellGates gs) _ (lt-ltb (g .turn) n (fit .0 .1))
+    ∙ tested-true (ltb (g .turn) n) OutsideLimit whole (spell (g .turn) ++ spellGates gs) _ (lt-ltb (g .turn) n (fit .0 .1))
     ∙ gates-accepted whole n (read ++ (g ∷ [])) gs few (fit .1)
     ∙ ap (λ all. Ok (record { poses = n; gates = all })) (append-assoc read (g ∷ []) gs)
 
@@ -121,9 +93,9 @@ sheet-accepted t k =
     let second = spell (length (t .gates)) ++ last in
     let first = spell (t .poses) ++ second in
     number-spell whole (t .poses) second _ (omega (arith, k .few-poses))
-    ∙ tested-on (within 1 32 (t .poses)) OutsideLimit whole first _ (within-on (t .poses) (k .some-pose) (k .few-poses))
+    ∙ tested-true (within 1 32 (t .poses)) OutsideLimit whole first _ (within-true 1 32 (t .poses) (k .some-pose) (k .few-poses))
     ∙ number-spell whole (length (t .gates)) last _ (omega (arith, k .few-gates))
-    ∙ tested-on (within 1 32 (length (t .gates))) OutsideLimit whole second _ (within-on (length (t .gates)) (k .some-gate) (k .few-gates))
+    ∙ tested-true (within 1 32 (length (t .gates))) OutsideLimit whole second _ (within-true 1 32 (length (t .gates)) (k .some-gate) (k .few-gates))
     ∙ gates-accepted whole (t .poses) [] (t .gates) (k .few-poses) (fitting t k)
 
 -- fields from which a row is read are its spelling
@@ -145,18 +117,10 @@ fields-only whole rest t h =
     (gates-only whole (a .0) (d .0) [] (d .1) t (e .1))
 
 sheet-only : (sheet : List ℕ) (t : Gates) → gateSheet sheet ≡ Ok t → Keeps t × (sheet ≡ spellRow t)
-sheet-only [] t h = let z : _≡_ {A = ℕ} 0 1 = cc in let no : ⊥ = omega arith in elim no [ ]
-sheet-only (b ∷ rest) t h =
-    let k = tested-only (eqb b 3) WrongKind (b ∷ rest) (b ∷ rest) (gateFields (b ∷ rest) rest) t h in
-    let f = fields-only (b ∷ rest) rest t (k .1) in
-    let kind : b ≡ 3 = eqb-true b 3 (k .0) in
-    (f .0, ap (λ x. x ∷ rest) kind ∙ ap (λ r. 3 ∷ r) (f .1))
-
--- with the right kind in front, the fields are what stands after the first byte
-pub right-kind : (sheet : List ℕ) → getD sheet 0 0 ≡ 3 → gateFields sheet (take (length sheet - 1) (drop 1 sheet)) ≡ gateSheet sheet
-right-kind [] h = let no : ⊥ = omega arith in elim no [ ]
-right-kind (b ∷ rest) h =
-    ap (gateFields (b ∷ rest)) (take-rest (b ∷ rest) 1) ∙ sym (cond-true (eqb b 3) (gateFields (b ∷ rest) rest) _ (eq-eqb b 3 h))
+sheet-only sheet t h =
+    let k = kinded-only 3 sheet (gateFields sheet) t h in
+    let f = fields-only sheet (k .0) t (k .2) in
+    (f .0, k .1 ∙ ap (λ r. 3 ∷ r) (f .1))
 
 pub one-sheet : OneSheet Keeps spellRow gateSheet
 one-sheet = record { accepted = sheet-accepted; only = sheet-only }

@@ -1,3 +1,4 @@
-pub mod Fields
+pub mod Field
+pub mod Grammar
 pub mod Reading
 pub mod Spelling

@@ -1,4 +1,5 @@
 pub mod Answers
+pub mod Field
 pub mod Format
 pub mod Grammar
 pub mod Number

@@ -1,15 +1,21 @@
 // Numbers in bytes: seven bits a group, lowest first, in the shortest form.
 ghost use mathlib.Core.Path.{_≡_};
 ghost use Rattle.numbers.specs.Answers.{Answers};
+ghost use Rattle.numbers.specs.Field.{readOf};
 ghost use Rattle.numbers.specs.Grammar.{numberFault};
-ghost use Rattle.numbers.specs.Number.{Read};
 ghost use Rattle.numbers.specs.Reading.{readBy};
 ghost use Rattle.numbers.specs.Spelling.{OneSpelling};
-ghost use Rattle.std.specs.Results.{Cases};
-ghost use Rattle.std.specs.declared.result.Result.the-variants.{Ok, Err};
+ghost use Rattle.refusals.specs.Outcomes.{Gives};
 use refusals::Fault;
 use refusals::Reader;
 use refusals::Refusal;
+
+mod fields;
+
+pub use fields::below;
+pub use fields::cut_short;
+pub use fields::fault_at;
+pub use fields::limited;
 
 // A number, and the bytes after it.
 #[derive(Clone, Copy)]
@@ -50,7 +56,7 @@ pub fn read<'a>(bytes: &'a [u8]) -> Result<Number<'a>, Fault>
 
 // The number of at most `most` groups at the front of `bytes`.
 fn read_groups<'a>(bytes: &'a [u8], most: u8) -> Result<Number<'a>, Refusal>
-    ensures { λ r. ⌜ Cases r (λ n. readBy most (now (bytes .entry)) ≡ Ok (record { value = n .value; rest = now (n .rest) })) (λ e. readBy most (now (bytes .entry)) ≡ Err e) ⌝ }
+    ensures { λ r. ⌜ Gives readOf (readBy most (now (bytes .entry))) r ⌝ }
 {
     if most == 0 {
         return Err(Refusal::BadNumber);
@@ -139,5 +145,56 @@ mod tests {
     fn places_in_the_whole() -> Result<(), Fail> {
         refuses(&[1, 7, 0x80, 0x00], &[0x80, 0x00], Refusal::BadNumber, 2)?;
         refuses(&[1, 7, 0x80], &[0x80], Refusal::EndsEarly, 3)
+    }
+
+    fn refuses_field(
+        field: Result<Number, Fault>,
+        refusal: Refusal,
+        place: usize,
+        reader: Reader,
+    ) -> Result<(), Fail> {
+        let fault = Fault {
+            refusal,
+            place,
+            reader,
+        };
+        check_eq(field.err(), Some(fault))
+    }
+
+    #[test]
+    fn limits_at_both_ends() -> Result<(), Fail> {
+        check_eq(limited(&[9, 2], &[2], 2, 4)?.value, 2)?;
+        check_eq(limited(&[9, 4], &[4], 2, 4)?.value, 4)?;
+        refuses_field(
+            limited(&[9, 1], &[1], 2, 4),
+            Refusal::OutsideLimit,
+            1,
+            Reader::Sheet,
+        )?;
+        refuses_field(
+            limited(&[9, 5], &[5], 2, 4),
+            Refusal::OutsideLimit,
+            1,
+            Reader::Sheet,
+        )?;
+        refuses_field(
+            limited(&[9], &[], 2, 4),
+            Refusal::EndsEarly,
+            1,
+            Reader::Number,
+        )
+    }
+
+    #[test]
+    fn below_an_end() -> Result<(), Fail> {
+        let most = [0xFF, 0xFF, 0xFF, 0xFF, 0x0F];
+        check_eq(below(&most, &most, 1 << 32)?.value, 4_294_967_295)?;
+        check_eq(below(&[3], &[3], 4)?.value, 3)?;
+        refuses_field(
+            below(&[9, 4], &[4], 4),
+            Refusal::OutsideLimit,
+            1,
+            Reader::Sheet,
+        )
     }
 }

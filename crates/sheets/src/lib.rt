@@ -1,18 +1,18 @@
 // Sheets of any kind: the kind byte chooses the reader of the fields.
-ghost use mathlib.Core.Path.{_≡_};
 ghost use Rattle.gates.specs.Sheet.{gateFields};
 ghost use Rattle.numbers.specs.Format.{OneSheet};
-ghost use Rattle.refusals.specs.declared.Reader.the-variants.{Sheet};
+ghost use Rattle.refusals.specs.Outcomes.{Gives};
 ghost use Rattle.sheets.specs.Described.{Keeps, described, jaws, motionOf, onOk, row, spelled, tray};
-ghost use Rattle.sheets.specs.Held.{Gives, describedBy};
+ghost use Rattle.sheets.specs.Held.{describedBy};
 ghost use Rattle.sheets.specs.Valid.{sheet-valid};
 ghost use Rattle.squeeze.specs.Sheet.{squeezeFields};
 ghost use Rattle.trays.specs.Sheet.{trayFields};
 use feeders::Feeder;
 use gates::GateRow;
 use gates::GateRowFeeder;
+use numbers::cut_short;
+use numbers::fault_at;
 use refusals::Fault;
-use refusals::Reader;
 use refusals::Refusal;
 use squeeze::SqueezeTable;
 use squeeze::SqueezeTableFeeder;
@@ -25,7 +25,7 @@ pub use feeder::SheetFeeder;
 
 // The feeder that a sheet describes, or the sheet's fault.
 pub fn read(sheet: &[u8]) -> Result<SheetFeeder, Fault>
-    ensures reads { λ r. ⌜ Gives (described (now (sheet .entry))) r ⌝ }
+    ensures reads { λ r. ⌜ Gives describedBy (described (now (sheet .entry))) r ⌝ }
     ensures format { λ _. ⌜ OneSheet Keeps spelled described ⌝ }
 {
     read_kind(sheet)
@@ -33,10 +33,10 @@ pub fn read(sheet: &[u8]) -> Result<SheetFeeder, Fault>
 
 // The kind byte chooses the reader of the fields.
 fn read_kind(sheet: &[u8]) -> Result<SheetFeeder, Fault>
-    ensures { λ r. ⌜ Gives (described (now (sheet .entry))) r ⌝ }
+    ensures { λ r. ⌜ Gives describedBy (described (now (sheet .entry))) r ⌝ }
 {
     let [kind, fields @ ..] = sheet else {
-        return Err(at_start(Refusal::EndsEarly));
+        return Err(cut_short(sheet));
     };
     if *kind == 1 {
         return read_squeeze(sheet, fields);
@@ -47,11 +47,11 @@ fn read_kind(sheet: &[u8]) -> Result<SheetFeeder, Fault>
     if *kind == 3 {
         return read_gates(sheet, fields);
     }
-    Err(at_start(Refusal::WrongKind))
+    Err(fault_at(Refusal::WrongKind, sheet, sheet))
 }
 
 fn read_squeeze(sheet: &[u8], fields: &[u8]) -> Result<SheetFeeder, Fault>
-    ensures { λ r. ⌜ Gives (onOk jaws (squeezeFields (now (sheet .entry)) (now (fields .entry)))) r ⌝ }
+    ensures { λ r. ⌜ Gives describedBy (onOk jaws (squeezeFields (now (sheet .entry)) (now (fields .entry)))) r ⌝ }
 {
     let mut table = SqueezeTable::new();
     table.fill_fields(sheet, fields)?;
@@ -59,7 +59,7 @@ fn read_squeeze(sheet: &[u8], fields: &[u8]) -> Result<SheetFeeder, Fault>
 }
 
 fn read_tray(sheet: &[u8], fields: &[u8]) -> Result<SheetFeeder, Fault>
-    ensures { λ r. ⌜ Gives (onOk tray (trayFields (now (sheet .entry)) (now (fields .entry)))) r ⌝ }
+    ensures { λ r. ⌜ Gives describedBy (onOk tray (trayFields (now (sheet .entry)) (now (fields .entry)))) r ⌝ }
 {
     let mut table = Tray::new();
     table.fill_fields(sheet, fields)?;
@@ -67,22 +67,11 @@ fn read_tray(sheet: &[u8], fields: &[u8]) -> Result<SheetFeeder, Fault>
 }
 
 fn read_gates(sheet: &[u8], fields: &[u8]) -> Result<SheetFeeder, Fault>
-    ensures { λ r. ⌜ Gives (onOk row (gateFields (now (sheet .entry)) (now (fields .entry)))) r ⌝ }
+    ensures { λ r. ⌜ Gives describedBy (onOk row (gateFields (now (sheet .entry)) (now (fields .entry)))) r ⌝ }
 {
     let mut table = GateRow::new();
     table.fill_fields(sheet, fields)?;
     Ok(SheetFeeder::Gates(table))
-}
-
-// A fault at the kind byte.
-fn at_start(refusal: Refusal) -> Fault
-    ensures { λ r. ⌜ r ≡ record { refusal = refusal; place = 0; reader = Sheet } ⌝ }
-{
-    Fault {
-        refusal,
-        place: 0,
-        reader: Reader::Sheet,
-    }
 }
 
 pub impl Feeder for SheetFeeder as SheetFeederFeeder {

@@ -2,7 +2,6 @@
 use Prim.Native.Nat.{ℕ, suc, _+_, _-_, _≤_, _<_}
 use native.Mathlib.Omega.{arith}
 use mathlib.Core.Path.{_≡_, refl, sym, _∙_, ap}
-use mathlib.Core.Bool.{Bool, true, false}
 use mathlib.Core.List.{List, [], _∷_, _++_}
 use lib.Dec.{ltb}
 use lib.ListN.{length, take, set}
@@ -10,14 +9,15 @@ use Rattle.std.specs.declared.result.Result.{Result}
 use Rattle.std.specs.declared.result.Result.the-variants.{Ok, Err}
 use Rattle.std.proofs.shelf.Lists.{getD-take, getD-append-left, length-take-le, take-more-set}
 use Rattle.refusals.specs.declared.Fault.{Fault}
-use Rattle.refusals.specs.declared.Refusal.{Refusal}
 use Rattle.refusals.specs.declared.Refusal.the-variants.{OutsideLimit, OutOfOrder}
-use Rattle.numbers.specs.Number.{Read, numberAt}
-use Rattle.numbers.specs.Grammar.{number, numberFault, tested, within}
+use Rattle.numbers.specs.Field.{andThen, fieldAt}
+use Rattle.numbers.specs.Grammar.{number, tested, within}
+use Rattle.numbers.specs.Number.{Read}
+use Rattle.numbers.proofs.Field.{test-then, field-then, field-ok, field-err, limitedAt, belowAt, below-is}
 use Rattle.squeeze.specs.declared.step.Step.{Step}
 use Rattle.squeeze.specs.Squeeze.{blank, begin, rest}
 use Rattle.squeeze.specs.Sheet.{turnsLeft, follows, settles, stepsLeft, squeezeFields}
-use Rattle.squeeze.specs.Reading.{andThen, fieldAt, beginAt, Row, rowAt}
+use Rattle.squeeze.specs.Reading.{beginAt, Row, rowAt}
 use Rattle.squeeze.specs.Valid.{rest-take}
 use Rattle.squeeze.proofs.Rule.{follows-is}
 
@@ -35,34 +35,21 @@ first-is ss n s some few =
     let m : length (take n ss) ≡ n = length-take-le n ss few in
     ap (λ (q : Step). q .begin) (sym (getD-append-left (take n ss) (s ∷ []) blank 0 (omega (arith, m)) ∙ getD-take n ss 0 blank (omega arith)))
 
--- one test, and two
-test-then : {X : Type 0} (ok : Bool) (e : Refusal) (whole bytes : List ℕ) (n : Read) (go : Read → Result X Fault) → tested ok e whole bytes (go n) ≡ andThen (tested ok e whole bytes (Ok n)) go
-test-then true e whole bytes n go = refl
-test-then false e whole bytes n go = refl
-
-tests-then : {X : Type 0} (ok fine : Bool) (e d : Refusal) (whole bytes : List ℕ) (n : Read) (go : Read → Result X Fault) → tested ok e whole bytes (tested fine d whole bytes (go n)) ≡ andThen (tested ok e whole bytes (tested fine d whole bytes (Ok n))) go
-tests-then true true e d whole bytes n go = refl
-tests-then true false e d whole bytes n go = refl
-tests-then false fine e d whole bytes n go = refl
-
--- a number field, and what follows it
-number-then : {X : Type 0} (whole bytes : List ℕ) (f : ℕ → List ℕ → Result X Fault) (g : ℕ → List ℕ → Result Read Fault) (go : Read → Result X Fault) → ((v : ℕ) (after : List ℕ) → f v after ≡ andThen (g v after) go) → number whole bytes f ≡ andThen (number whole bytes g) go
-number-then {X} whole bytes f g go h = by (numberAt bytes)
-  where
-    by : (r : Result Read Refusal) → elim r as (λ _. Result X Fault) [ Ok n ↦ f (n .value) (n .rest) | Err e ↦ Err (numberFault whole bytes e) ] ≡ andThen (elim r as (λ _. Result Read Fault) [ Ok n ↦ g (n .value) (n .rest) | Err e ↦ Err (numberFault whole bytes e) ]) go
-    by (Ok n) = h (n .value) (n .rest)
-    by (Err e) = refl
-
-pub field-then : {X : Type 0} (good : ℕ → Bool) (e : Refusal) (whole bytes : List ℕ) (go : Read → Result X Fault) → number whole bytes (λ v after. tested (good v) e whole bytes (go (record { value = v; rest = after }))) ≡ andThen (fieldAt good e whole bytes) go
-field-then good e whole bytes go = number-then whole bytes _ _ go (λ v after. test-then (good v) e whole bytes (record { value = v; rest = after }) go)
-
-begin-then : {X : Type 0} (ticks : ℕ) (read : List Step) (whole bytes : List ℕ) (go : Read → Result X Fault) → number whole bytes (λ b after. tested (ltb b ticks) OutsideLimit whole bytes (tested (follows read b) OutOfOrder whole bytes (go (record { value = b; rest = after })))) ≡ andThen (beginAt ticks read whole bytes) go
-begin-then ticks read whole bytes go = number-then whole bytes _ _ go (λ b after. tests-then (ltb b ticks) (follows read b) OutsideLimit OutOfOrder whole bytes (record { value = b; rest = after }) go)
-
 -- one after another
 join : {X Y Z : Type 0} (r : Result X Fault) (f : X → Result Y Fault) (go : Y → Result Z Fault) (f′ : X → Result Z Fault) → ((x : X) → f′ x ≡ andThen (f x) go) → andThen r f′ ≡ andThen (andThen r f) go
 join (Ok x) f go f′ h = h x
 join (Err e) f go f′ h = refl
+
+-- a beginning, and what follows it
+begin-then : {X : Type 0} (ticks : ℕ) (read : List Step) (whole bytes : List ℕ) (go : Read → Result X Fault) → number whole bytes (λ b after. tested (ltb b ticks) OutsideLimit whole bytes (tested (follows read b) OutOfOrder whole bytes (go (record { value = b; rest = after })))) ≡ andThen (beginAt ticks read whole bytes) go
+begin-then ticks read whole bytes go =
+    field-then (λ b. ltb b ticks) OutsideLimit whole bytes (λ b. tested (follows read (b .value)) OutOfOrder whole bytes (go b))
+    ∙ join (fieldAt (λ b. ltb b ticks) OutsideLimit whole bytes) _ _ _ (λ b. test-then (follows read (b .value)) OutOfOrder whole bytes b go)
+
+-- a beginning that is no number below T
+pub begin-refused : (end ticks : ℕ) (read : List Step) (whole bytes : List ℕ) (f : Fault) → end ≡ ticks → belowAt end whole bytes ≡ Err f → beginAt ticks read whole bytes ≡ Err f
+begin-refused end ticks read whole bytes f is h =
+    ap (λ (r : Result Read Fault). andThen r (λ b. tested (follows read (b .value)) OutOfOrder whole bytes (Ok b))) (below-is end ticks whole bytes (Err f) is h)
 
 -- a step, and the steps after it
 pub row-then : (whole : List ℕ) (ticks k left : ℕ) (read : List Step) (bytes : List ℕ) → stepsLeft whole ticks k (suc left) read bytes ≡ andThen (rowAt ticks left read whole bytes) (λ q. stepsLeft whole ticks k left (read ++ (q .step ∷ [])) (q .after))
@@ -73,7 +60,7 @@ row-then whole ticks k left read bytes =
     ∙ join (fieldAt (settles ticks left read (b .value)) OutOfOrder whole (b .rest)) (λ s. Ok (record { step = record { begin = b .value; rest = s .value }; after = s .rest })) _ _ (λ s. refl))
 
 -- a turn, and the turns after it
-pub turn-then : (whole : List ℕ) (ticks : ℕ) (steps : List Step) (left : ℕ) (read bytes : List ℕ) → turnsLeft whole ticks steps (suc left) read bytes ≡ andThen (fieldAt (λ r. ltb r ticks) OutsideLimit whole bytes) (λ n. turnsLeft whole ticks steps left (read ++ (n .value ∷ [])) (n .rest))
+pub turn-then : (whole : List ℕ) (ticks : ℕ) (steps : List Step) (left : ℕ) (read bytes : List ℕ) → turnsLeft whole ticks steps (suc left) read bytes ≡ andThen (belowAt ticks whole bytes) (λ n. turnsLeft whole ticks steps left (read ++ (n .value ∷ [])) (n .rest))
 turn-then whole ticks steps left read bytes = field-then (λ r. ltb r ticks) OutsideLimit whole bytes (λ n. turnsLeft whole ticks steps left (read ++ (n .value ∷ [])) (n .rest))
 
 -- the loop over the steps: one is read, or refused
@@ -95,34 +82,24 @@ steps-refused whole ticks k count i steps bytes f h e =
     ∙ ap (λ (r : Result Row Fault). andThen r (λ p. stepsLeft whole ticks k (count - i - 1) (take i steps ++ (p .step ∷ [])) (p .after))) e
 
 -- the loop over the turns, likewise
-pub turns-turn : (whole : List ℕ) (ticks : ℕ) (steps : List Step) (count i : ℕ) (turns bytes : List ℕ) (n : Read) → i < count → i < length turns → fieldAt (λ r. ltb r ticks) OutsideLimit whole bytes ≡ Ok n → turnsLeft whole ticks steps (count - i) (take i turns) bytes ≡ turnsLeft whole ticks steps (count - (i + 1)) (take (i + 1) (set turns i (n .value))) (n .rest)
-turns-turn whole ticks steps count i turns bytes n h l e =
+pub turns-turn : (whole : List ℕ) (end ticks : ℕ) (steps : List Step) (count i : ℕ) (turns bytes : List ℕ) (n : Read) → i < count → i < length turns → end ≡ ticks → belowAt end whole bytes ≡ Ok n → turnsLeft whole ticks steps (count - i) (take i turns) bytes ≡ turnsLeft whole ticks steps (count - (i + 1)) (take (i + 1) (set turns i (n .value))) (n .rest)
+turns-turn whole end ticks steps count i turns bytes n h l is e =
     let one : count - i ≡ suc (count - i - 1) = omega arith in
     let left : count - i - 1 ≡ count - (i + 1) = omega arith in
     ap (λ (m : ℕ). turnsLeft whole ticks steps m (take i turns) bytes) one
     ∙ turn-then whole ticks steps (count - i - 1) (take i turns) bytes
-    ∙ ap (λ (r : Result Read Fault). andThen r (λ p. turnsLeft whole ticks steps (count - i - 1) (take i turns ++ (p .value ∷ [])) (p .rest))) e
+    ∙ ap (λ (r : Result Read Fault). andThen r (λ p. turnsLeft whole ticks steps (count - i - 1) (take i turns ++ (p .value ∷ [])) (p .rest))) (below-is end ticks whole bytes (Ok n) is e)
     ∙ ap (λ (m : ℕ). turnsLeft whole ticks steps m (take i turns ++ (n .value ∷ [])) (n .rest)) left
     ∙ ap (λ (rs : List ℕ). turnsLeft whole ticks steps (count - (i + 1)) rs (n .rest)) (sym (take-more-set turns i (n .value) l))
 
-pub turns-refused : (whole : List ℕ) (ticks : ℕ) (steps : List Step) (count i : ℕ) (turns bytes : List ℕ) (f : Fault) → i < count → fieldAt (λ r. ltb r ticks) OutsideLimit whole bytes ≡ Err f → turnsLeft whole ticks steps (count - i) (take i turns) bytes ≡ Err f
-turns-refused whole ticks steps count i turns bytes f h e =
+pub turns-refused : (whole : List ℕ) (end ticks : ℕ) (steps : List Step) (count i : ℕ) (turns bytes : List ℕ) (f : Fault) → i < count → end ≡ ticks → belowAt end whole bytes ≡ Err f → turnsLeft whole ticks steps (count - i) (take i turns) bytes ≡ Err f
+turns-refused whole end ticks steps count i turns bytes f h is e =
     let one : count - i ≡ suc (count - i - 1) = omega arith in
     ap (λ (m : ℕ). turnsLeft whole ticks steps m (take i turns) bytes) one
     ∙ turn-then whole ticks steps (count - i - 1) (take i turns) bytes
-    ∙ ap (λ (r : Result Read Fault). andThen r (λ p. turnsLeft whole ticks steps (count - i - 1) (take i turns ++ (p .value ∷ [])) (p .rest))) e
-
--- a field that is passed, and one that is refused
-pub field-ok : {X : Type 0} (good : ℕ → Bool) (e : Refusal) (whole bytes : List ℕ) (go : ℕ → List ℕ → Result X Fault) (n : Read) → fieldAt good e whole bytes ≡ Ok n → number whole bytes (λ v after. tested (good v) e whole bytes (go v after)) ≡ go (n .value) (n .rest)
-field-ok good e whole bytes go n h = field-then good e whole bytes (λ r. go (r .value) (r .rest)) ∙ ap (λ (r : Result Read Fault). andThen r (λ q. go (q .value) (q .rest))) h
-
-pub field-err : {X : Type 0} (good : ℕ → Bool) (e : Refusal) (whole bytes : List ℕ) (go : ℕ → List ℕ → Result X Fault) (f : Fault) → fieldAt good e whole bytes ≡ Err f → number whole bytes (λ v after. tested (good v) e whole bytes (go v after)) ≡ Err f
-field-err good e whole bytes go f h = field-then good e whole bytes (λ r. go (r .value) (r .rest)) ∙ ap (λ (r : Result Read Fault). andThen r (λ q. go (q .value) (q .rest))) h
+    ∙ ap (λ (r : Result Read Fault). andThen r (λ p. turnsLeft whole ticks steps (count - i - 1) (take i turns ++ (p .value ∷ [])) (p .rest))) (below-is end ticks whole bytes (Err f) is e)
 
 -- the three numbers in front of the steps
-abbrev pub limitedAt : ℕ → ℕ → List ℕ → List ℕ → Result Read Fault
-limitedAt low high whole bytes = fieldAt (within low high) OutsideLimit whole bytes
-
 pub ticks-err : (whole bytes : List ℕ) (f : Fault) → limitedAt 2 36000 whole bytes ≡ Err f → squeezeFields whole bytes ≡ Err f
 ticks-err whole bytes f h = field-err (within 2 36000) OutsideLimit whole bytes _ f h
 

@@ -1,17 +1,17 @@
 -- The rule of the steps, one step at a time: what the tests of the sheet say of the steps read.
-use Prim.Native.Nat.{ℕ, suc, _+_, _-_, _≤_, _<_}
+use Prim.Native.Nat.{ℕ, zero, suc, _+_, _-_, _≤_, _<_}
 use native.Mathlib.Omega.{arith}
-use mathlib.Core.Path.{_≡_, refl, sym, _∙_, ap}
-use mathlib.Core.Logic.{inl, inr}
-use mathlib.Core.Bool.{true, false}
+use mathlib.Core.Path.{_≡_, refl, sym, _∙_, ap, subst}
+use mathlib.Core.Logic.{_⊎_, inl, inr}
+use mathlib.Core.Bool.{Bool, true, false, cond}
 use mathlib.Core.List.{List, [], _∷_, _++_}
 use lib.Dec.{leb, ltb, eqb}
-use lib.ListN.{length}
+use lib.ListN.{length, getD}
 use borrow.Author.Tests.{clash}
-use Rattle.std.proofs.shelf.Lists.{getD-append-left, getD-push, length-push}
-use Rattle.std.proofs.shelf.Tests.{cases-bool, cases-lt, cases-eq, cond-true, cond-false, leb-true, ltb-true, le-leb, lt-ltb, eq-eqb, ne-eqb}
+use Rattle.std.proofs.shelf.Lists.{getD-append-left, getD-push, length-push, getD-at}
+use Rattle.std.proofs.shelf.Tests.{cases-bool, cases-lt, cases-eq, cond-true, cond-false, leb-true, ltb-true, eqb-false, eqb-true, le-leb, lt-ltb, eq-eqb, ne-eqb}
 use Rattle.squeeze.specs.declared.step.Step.{Step}
-use Rattle.squeeze.specs.Squeeze.{blank, begin, rest}
+use Rattle.squeeze.specs.Squeeze.{Squeeze, Keeps, blank, begin, rest}
 use Rattle.squeeze.specs.Sheet.{follows, settles}
 
 -- the steps follow one another, each begins below T

@@ -2,52 +2,23 @@
 use Prim.Native.Nat.{ℕ, zero, suc, _+_, _-_, _≤_, _<_}
 use native.Mathlib.Omega.{arith}
 use mathlib.Core.Path.{_≡_, refl, sym, _∙_, ap, subst}
-use mathlib.Core.Logic.{inl, inr}
-use mathlib.Core.Bool.{Bool, true, false}
+use mathlib.Core.Bool.{true}
 use mathlib.Core.List.{List, [], _∷_, _++_, append-assoc}
-use lib.Dec.{leb, ltb, eqb}
-use lib.ListN.{length, getD, take, drop, length-append}
-use borrow.Author.Tests.{clash}
-use Rattle.std.specs.declared.result.Result.{Result}
-use Rattle.std.specs.declared.result.Result.the-variants.{Ok, Err}
-use Rattle.std.proofs.shelf.Lists.{append-nil, getD-append-left, getD-at, getD-push, length-push, nil-from-length, take-all}
-use Rattle.std.proofs.shelf.Tests.{cases-bool, cond-true, cond-false, ltb-true, leb-true, le-leb, lt-ltb, eqb-true, eq-eqb}
-use Rattle.refusals.specs.declared.Fault.{Fault}
-use Rattle.refusals.specs.declared.Refusal.{Refusal}
+use lib.Dec.{ltb}
+use lib.ListN.{length, getD, length-append}
+use Rattle.std.specs.declared.result.Result.the-variants.{Ok}
+use Rattle.std.proofs.shelf.Lists.{append-nil, getD-append-left, getD-at, getD-push, length-push, nil-from-length}
+use Rattle.std.proofs.shelf.Tests.{ltb-true, lt-ltb}
 use Rattle.refusals.specs.declared.Refusal.the-variants.{OutsideLimit, OutOfOrder}
 use Rattle.numbers.specs.Number.{spell}
-use Rattle.numbers.specs.Grammar.{tested, ended, within}
+use Rattle.numbers.specs.Grammar.{within}
 use Rattle.numbers.specs.Format.{OneSheet}
-use Rattle.numbers.proofs.Fields.{number-spell, number-only}
+use Rattle.numbers.proofs.Field.{number-spell, number-only}
+use Rattle.numbers.proofs.Grammar.{tested-true, tested-only, ended-only, kinded-only, within-true, within-only}
 use Rattle.squeeze.specs.declared.step.Step.{Step}
 use Rattle.squeeze.specs.Squeeze.{Squeeze, Keeps, blank, begin, rest}
 use Rattle.squeeze.specs.Sheet.{spellSteps, spellTurns, spellSqueeze, turnsLeft, follows, settles, stepsLeft, squeezeFields, squeezeSheet}
 use Rattle.squeeze.proofs.Rule.{Steps, Closed, follows-true, settles-true, settles-only, steps-none, steps-more, closed-more, rest-low}
-
-refused : {A X : Type 0} {e : Fault} {x : X} → _≡_ {A = Result X Fault} (Err e) (Ok x) → A
-refused h = let z : _≡_ {A = ℕ} 0 1 = cc in let no : ⊥ = omega arith in elim no [ ]
-
--- a test that is passed
-pub tested-true : {X : Type 0} (ok : Bool) (e : Refusal) (whole rest : List ℕ) (go : Result X Fault) → ok ≡ true → tested ok e whole rest go ≡ go
-tested-true ok e whole rest go h = cond-true ok go _ h
-
-tested-only : {X : Type 0} (ok : Bool) (e : Refusal) (whole rest : List ℕ) (go : Result X Fault) (x : X) → tested ok e whole rest go ≡ Ok x → (ok ≡ true) × (go ≡ Ok x)
-tested-only true e whole rest go x h = (refl, h)
-tested-only false e whole rest go x h = refused h
-
-ended-only : {X : Type 0} (whole rest : List ℕ) (x y : X) → ended whole rest x ≡ Ok y → (rest ≡ []) × (x ≡ y)
-ended-only whole [] x y h = (refl, cc)
-ended-only whole (b ∷ rest) x y h = refused h
-
-pub within-true : (low high v : ℕ) → low ≤ v → v ≤ high → within low high v ≡ true
-within-true low high v l h = cond-true (leb low v) _ _ (le-leb low v l) ∙ le-leb v high h
-
-pub within-only : (low high v : ℕ) → within low high v ≡ true → (low ≤ v) × (v ≤ high)
-within-only low high v h =
-    elim (cases-bool (leb low v)) [
-      | inl e ↦ (leb-true low v e, leb-true v high (sym (cond-true (leb low v) _ _ e) ∙ h))
-      | inr e ↦ elim (clash (sym (cond-false (leb low v) (leb v high) false e) ∙ h)) [ ]
-    ]
 
 -- each turn is below T
 abbrev Below : ℕ → List ℕ → Type 0
@@ -78,6 +49,7 @@ turns-only whole ticks steps zero read rest t h =
     ([], record { count = refl; below = λ j l. omega arith; spelled = e .0; held = sym (e .1) ∙ ap (λ (rs : List ℕ). record { ticks = ticks; steps = steps; turns = rs }) (sym (append-nil read)) })
 turns-only whole ticks steps (suc left) read rest t h =
     let n = number-only whole rest _ t h in
+    let r : ℕ = n .0 in
     let p = tested-only (ltb (n .0) ticks) OutsideLimit whole rest _ t (n .4) in
     let more = turns-only whole ticks steps left (read ++ (n .0 ∷ [])) (n .1) t (p .1) in (
       n .0 ∷ more .0,
@@ -93,6 +65,7 @@ turns-only whole ticks steps (suc left) read rest t h =
 steps-spelled : (whole : List ℕ) (ticks k : ℕ) (ss read : List Step) (after : List ℕ) → ticks ≤ 36000 → Steps ticks (read ++ ss) → Closed ticks (read ++ ss) → stepsLeft whole ticks k (length ss) read (spellSteps ss ++ after) ≡ turnsLeft whole ticks (read ++ ss) k [] after
 steps-spelled whole ticks k [] read after few g last = ap (λ (qs : List Step). turnsLeft whole ticks qs k [] after) (sym (append-nil read))
 steps-spelled whole ticks k (s ∷ ss) read after few g last =
+    let all : List Step = read ++ (s ∷ ss) in
     let n : length (read ++ (s ∷ ss)) ≡ length read + suc (length ss) = length-append read (s ∷ ss) in
     let at : getD (read ++ (s ∷ ss)) (length read) blank ≡ s = getD-at read s ss blank (length read) refl in
     let here : begin (read ++ (s ∷ ss)) (length read) ≡ s .begin = ap (λ (q : Step). q .begin) at in
@@ -236,22 +209,10 @@ fields-only whole fields t h =
     subst P (sym (r .held)) (K, e)
 
 sheet-only : (sheet : List ℕ) (t : Squeeze) → squeezeSheet sheet ≡ Ok t → Keeps t × (sheet ≡ spellSqueeze t)
-sheet-only [] t h = refused h
-sheet-only (b ∷ fields) t h =
-    elim (cases-bool (eqb b 1)) [
-      | inl e ↦
-          let f = fields-only (b ∷ fields) fields t (sym (cond-true (eqb b 1) _ _ e) ∙ h) in
-          let one : b ≡ 1 = eqb-true b 1 e in
-          (f .0, ap (λ (k : ℕ). k ∷ fields) one ∙ ap (λ (bs : List ℕ). 1 ∷ bs) (f .1))
-      | inr e ↦ refused (sym (cond-false (eqb b 1) _ _ e) ∙ h)
-    ]
+sheet-only sheet t h =
+    let k = kinded-only 1 sheet (squeezeFields sheet) t h in
+    let f = fields-only sheet (k .0) t (k .2) in
+    (f .0, k .1 ∙ ap (λ (bs : List ℕ). 1 ∷ bs) (f .1))
 
 pub one-sheet : OneSheet Keeps spellSqueeze squeezeSheet
 one-sheet = record { accepted = λ t k. fields-spelled (spellSqueeze t) t k; only = sheet-only }
-
--- a sheet with the kind byte is what its fields are; `fields @ ..` is read as that take
-pub kind-then : (sheet : List ℕ) → 1 ≤ length sheet → getD sheet 0 0 ≡ 1 → squeezeFields sheet (take (length sheet - 1) (drop 1 sheet)) ≡ squeezeSheet sheet
-kind-then [] h e = let no : ⊥ = omega arith in elim no [ ]
-kind-then (b ∷ fields) h e =
-    ap (squeezeFields (b ∷ fields)) (take-all (suc (length fields) - 1) fields (omega arith))
-    ∙ sym (cond-true (eqb b 1) _ _ (eq-eqb b 1 e))

@@ -41,6 +41,7 @@ rest-take n ss i h = ap (λ (s : Step). s .rest) (getD-take n ss i blank h)
 
 pub keeps : (t : SqueezeTable) → Keeps (squeezeOf t)
 keeps t =
+    let n : ℕ = t .«step_count» in
     let m : length (take (t .«step_count») (t .steps)) ≡ t .«step_count» = length-take-le (t .«step_count») (t .steps) (omega arith) in
     let k : length (take (t .«turn_count») (t .turns)) ≡ t .«turn_count» = length-take-le (t .«turn_count») (t .turns) (omega arith) in
     let b : (i : ℕ) → i < t .«step_count» → begin (take (t .«step_count») (t .steps)) i ≡ begin (t .steps) i = begin-take (t .«step_count») (t .steps) in

@@ -2,17 +2,18 @@
 ghost use mathlib.Core.List.{[], _∷_};
 ghost use mathlib.Core.Path.{_≡_};
 ghost use Rattle.numbers.specs.Format.{OneSheet};
-ghost use Rattle.refusals.specs.Outcomes.{Leaves};
+ghost use Rattle.refusals.specs.Outcomes.{Gives, Leaves};
 ghost use Rattle.squeeze.specs.Held.{squeezeOf};
 ghost use Rattle.squeeze.specs.Sheet.{spellSqueeze, squeezeFields, squeezeSheet};
 ghost use Rattle.squeeze.specs.Squeeze.{Keeps};
-ghost use Rattle.std.specs.Results.{Cases};
-ghost use Rattle.std.specs.declared.result.Result.the-variants.{Err, Ok};
-use crate::reading;
+use crate::reading::read_steps;
+use crate::reading::read_turns;
 use crate::step::Step;
 use crate::table::SqueezeTable;
+use numbers::cut_short;
+use numbers::fault_at;
+use numbers::limited;
 use refusals::Fault;
-use refusals::Reader;
 use refusals::Refusal;
 
 // The first byte of a squeeze sheet.
@@ -28,13 +29,13 @@ const MOST: u32 = 32;
 
 // The table that the fields of a sheet describe.
 fn read_table(sheet: &[u8], fields: &[u8]) -> Result<SqueezeTable, Fault>
-    ensures { λ r. ⌜ Cases r (λ t. squeezeFields (now (sheet .entry)) (now (fields .entry)) ≡ Ok (squeezeOf t)) (λ e. squeezeFields (now (sheet .entry)) (now (fields .entry)) ≡ Err e) ⌝ }
+    ensures { λ r. ⌜ Gives squeezeOf (squeezeFields (now (sheet .entry)) (now (fields .entry))) r ⌝ }
 {
-    let ticks = reading::limited(sheet, fields, FEWEST_TICKS, MOST_TICKS)?;
-    let step_count = reading::limited(sheet, ticks.rest, 1, MOST)?;
-    let turn_count = reading::limited(sheet, step_count.rest, 1, MOST)?;
-    let list = reading::read_steps(sheet, turn_count.rest, ticks.value, step_count.value)?;
-    let turns = reading::read_turns(sheet, list.rest, ticks.value, turn_count.value)?;
+    let ticks = limited(sheet, fields, FEWEST_TICKS, MOST_TICKS)?;
+    let step_count = limited(sheet, ticks.rest, 1, MOST)?;
+    let turn_count = limited(sheet, step_count.rest, 1, MOST)?;
+    let list = read_steps(sheet, turn_count.rest, ticks.value, step_count.value)?;
+    let turns = read_turns(sheet, list.rest, ticks.value, turn_count.value)?;
     Ok(SqueezeTable {
         ticks: ticks.value,
         steps: list.steps,
@@ -65,16 +66,8 @@ impl SqueezeTable {
     {
         match sheet {
             [kind, fields @ ..] if *kind == KIND => self.fill_fields(sheet, fields),
-            [] => Err(Fault {
-                refusal: Refusal::EndsEarly,
-                place: 0,
-                reader: Reader::Sheet,
-            }),
-            _ => Err(Fault {
-                refusal: Refusal::WrongKind,
-                place: 0,
-                reader: Reader::Sheet,
-            }),
+            [] => Err(cut_short(sheet)),
+            _ => Err(fault_at(Refusal::WrongKind, sheet, sheet)),
         }
     }
 

@@ -1,20 +1,19 @@
 // Reading the fields of a squeeze sheet: each is tested as it is read, and a fault names the first byte of its field.
 ghost use Prim.Native.Nat.{_<_, _≤_};
-ghost use lib.Dec.{ltb};
 ghost use lib.ListN.{take};
 ghost use mathlib.Core.List.{[], _++_, _∷_};
 ghost use mathlib.Core.Path.{_≡_};
-ghost use Rattle.numbers.specs.Grammar.{faultAt, within};
-ghost use Rattle.refusals.specs.declared.Reader.the-variants.{Sheet};
-ghost use Rattle.refusals.specs.declared.Refusal.the-variants.{OutsideLimit};
-ghost use Rattle.squeeze.specs.Reading.{Gives, GivesRow, GivesSteps, GivesTurns, beginAt, fieldAt, rowAt};
+ghost use Rattle.numbers.specs.Field.{readOf};
+ghost use Rattle.refusals.specs.Outcomes.{Gives};
+ghost use Rattle.squeeze.specs.Reading.{GivesSteps, GivesTurns, beginAt, rowAt, rowOf};
 ghost use Rattle.squeeze.specs.Sheet.{follows as isAbove, settles as restsRight};
 ghost use Rattle.squeeze.specs.Squeeze.{begin as beginning};
-ghost use Rattle.std.specs.Vec.{made};
 use crate::step::Step;
 use numbers::Number;
+use numbers::below;
+use numbers::fault_at;
+use numbers::read_in;
 use refusals::Fault;
-use refusals::Reader;
 use refusals::Refusal;
 
 // A step, and the bytes after it.
@@ -29,34 +28,6 @@ pub(crate) struct StepRead<'a> {
 pub(crate) struct StepsRead<'a> {
     pub(crate) steps: [Step; 32],
     pub(crate) rest: &'a [u8],
-}
-
-// A refusal at the field that starts at `rest`, which is the end of `sheet`.
-pub(crate) fn fault_at(sheet: &[u8], rest: &[u8], refusal: Refusal) -> Fault
-    ensures { λ r. ⌜ r ≡ faultAt refusal Sheet (now (sheet .entry)) (now (rest .entry)) ⌝ }
-{
-    Fault {
-        refusal,
-        place: sheet.len().saturating_sub(rest.len()),
-        reader: Reader::Sheet,
-    }
-}
-
-// A number from `low` to `high`.
-pub(crate) fn limited<'a>(
-    sheet: &[u8],
-    rest: &'a [u8],
-    low: u32,
-    high: u32,
-) -> Result<Number<'a>, Fault>
-    ensures gives { λ r. ⌜ Gives (fieldAt (within low high) OutsideLimit (now (sheet .entry)) (now (rest .entry))) r ⌝ }
-    ensures inside { λ r. ⌜ made r (λ n. (low ≤ n .value) × (n .value ≤ high)) ⌝ }
-{
-    let field = numbers::read_in(sheet, rest)?;
-    if field.value < low || field.value > high {
-        return Err(fault_at(sheet, rest, Refusal::OutsideLimit));
-    }
-    Ok(field)
 }
 
 // Whether a beginning is above the last rest of the `count` steps read.
@@ -105,14 +76,11 @@ fn read_begin<'a>(
     count: u32,
 ) -> Result<Number<'a>, Fault>
     requires { ⌜ count ≤ 32 ⌝ }
-    ensures { λ r. ⌜ Gives (beginAt ticks (take count (now (steps .entry))) (now (sheet .entry)) (now (rest .entry))) r ⌝ }
+    ensures { λ r. ⌜ Gives readOf (beginAt ticks (take count (now (steps .entry))) (now (sheet .entry)) (now (rest .entry))) r ⌝ }
 {
-    let begin = numbers::read_in(sheet, rest)?;
-    if begin.value >= ticks {
-        return Err(fault_at(sheet, rest, Refusal::OutsideLimit));
-    }
+    let begin = below(sheet, rest, u64::from(ticks))?;
     if !is_above(steps, count, begin.value) {
-        return Err(fault_at(sheet, rest, Refusal::OutOfOrder));
+        return Err(fault_at(Refusal::OutOfOrder, sheet, rest));
     }
     Ok(begin)
 }
@@ -127,16 +95,16 @@ fn read_step<'a>(
     count: u32,
 ) -> Result<StepRead<'a>, Fault>
     requires { ⌜ count < 32 ⌝ }
-    ensures { λ r. ⌜ GivesRow (rowAt ticks left (take count (now (steps .entry))) (now (sheet .entry)) (now (rest .entry))) r ⌝ }
+    ensures { λ r. ⌜ Gives rowOf (rowAt ticks left (take count (now (steps .entry))) (now (sheet .entry)) (now (rest .entry))) r ⌝ }
 {
     let begin = read_begin(sheet, rest, ticks, steps, count)?;
-    let field = numbers::read_in(sheet, begin.rest)?;
+    let field = read_in(sheet, begin.rest)?;
     let step = Step {
         begin: begin.value,
         rest: field.value,
     };
     if !rests_right(ticks, left, steps, count, step) {
-        return Err(fault_at(sheet, begin.rest, Refusal::OutOfOrder));
+        return Err(fault_at(Refusal::OutOfOrder, sheet, begin.rest));
     }
     Ok(StepRead {
         step,
@@ -164,17 +132,6 @@ pub(crate) fn read_steps<'a>(
     Ok(StepsRead { steps, rest })
 }
 
-// A turn: a number below `ticks`.
-fn read_turn<'a>(sheet: &[u8], rest: &'a [u8], ticks: u32) -> Result<Number<'a>, Fault>
-    ensures { λ r. ⌜ Gives (fieldAt (λ v. ltb v ticks) OutsideLimit (now (sheet .entry)) (now (rest .entry))) r ⌝ }
-{
-    let turn = numbers::read_in(sheet, rest)?;
-    if turn.value >= ticks {
-        return Err(fault_at(sheet, rest, Refusal::OutsideLimit));
-    }
-    Ok(turn)
-}
-
 // The `count` turns of a sheet, after which nothing is left.
 pub(crate) fn read_turns(
     sheet: &[u8],
@@ -188,12 +145,12 @@ pub(crate) fn read_turns(
     let mut turns = [0; 32];
     let mut rest = fields;
     for i in 0..count {
-        let next = read_turn(sheet, rest, ticks)?;
+        let next = below(sheet, rest, u64::from(ticks))?;
         turns[i as usize] = next.value;
         rest = next.rest;
     }
     if !rest.is_empty() {
-        return Err(fault_at(sheet, rest, Refusal::LeftOver));
+        return Err(fault_at(Refusal::LeftOver, sheet, rest));
     }
     Ok(turns)
 }

@@ -1,7 +1,7 @@
--- The reader's way through a sheet: the kind byte, and the cells one byte at a time.
-use Prim.Native.Nat.{ℕ, zero, suc, _+_, _-_, _*_, _≤_, _<_}
+-- The reader's way through the cells, one byte at a time.
+use Prim.Native.Nat.{ℕ, suc, _+_, _-_, _*_, _≤_, _<_}
 use mathlib.Core.Path.{_≡_, sym, ap, _∙_}
-use mathlib.Core.Bool.{Bool, true, false, cond}
+use mathlib.Core.Bool.{Bool, true, false}
 use mathlib.Core.List.{List, [], _∷_, _++_}
 use native.Mathlib.Omega.{arith}
 use lib.Dec.{ltb, eqb}
@@ -9,17 +9,14 @@ use lib.ListN.{length, getD, take, drop, set}
 use Rattle.std.proofs.shelf.Bits.{mul-le}
 use Rattle.std.proofs.shelf.Lists.{take-more-set, nil-from-length}
 use Rattle.std.proofs.shelf.Parts.{first-rest}
-use Rattle.std.proofs.shelf.Tests.{cond-true, cond-false, ltb-true, eq-eqb}
-use Rattle.std.specs.declared.result.Result.{Result}
-use Rattle.std.specs.declared.result.Result.the-variants.{Ok, Err}
-use Rattle.refusals.specs.declared.Fault.{Fault}
+use Rattle.std.proofs.shelf.Tests.{cond-true, cond-false, ltb-true}
+use Rattle.std.specs.declared.result.Result.the-variants.{Err}
 use Rattle.refusals.specs.declared.Reader.the-variants.{Sheet}
 use Rattle.refusals.specs.declared.Refusal.the-variants.{OutsideLimit}
-use Rattle.numbers.specs.Grammar.{cutShort, faultAt, kinded}
-use Rattle.refusals.specs.Outcomes.{Leaves}
-use Rattle.trays.specs.Tray.{Grid, frees}
+use Rattle.numbers.specs.Grammar.{cutShort, faultAt}
+use Rattle.trays.specs.Tray.{frees}
 use Rattle.trays.specs.Reads.{goodAfter}
-use Rattle.trays.specs.Sheet.{goodCell, cellsLeft, trayFields, traySheet}
+use Rattle.trays.specs.Sheet.{goodCell, cellsLeft}
 use Rattle.trays.proofs.Format.{frees-append}
 
 -- cells are still to come
@@ -66,12 +63,3 @@ few-before free b x e s h = ltb-true free 32 (sym (cond-true (eqb b 0x2e) (ltb f
 
 pub grid-size : (rows columns : ℕ) → rows ≤ 16 → columns ≤ 16 → rows * columns ≤ 256
 grid-size rows columns h k = mul-le rows columns 16 16 h k
-
--- the fields of a sheet whose kind byte is a tray's
-pub fields-behind : (sheet : List ℕ) → 0 < length sheet → getD sheet 0 0 ≡ 2 → traySheet sheet ≡ trayFields sheet (take (length sheet - 1) (drop 1 sheet))
-fields-behind sheet h e =
-    ap (λ s. kinded 2 s (trayFields sheet)) (first-rest sheet 0 h) ∙ cond-true (eqb (getD sheet 0 0) 2) _ _ (eq-eqb _ _ e)
-
-pub leaves-like : {S U : Type 0} (holds : S → Grid) {x y : Result Grid Fault} (before after : S) (r : Result U Fault) → x ≡ y → Leaves holds y before after r → Leaves holds x before after r
-leaves-like holds before after (Ok u) e h = e ∙ h
-leaves-like holds before after (Err f) e h = (e ∙ h .0, h .1)

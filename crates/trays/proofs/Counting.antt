@@ -1,15 +1,15 @@
 -- Counting free cells and the cells of a slide, one step at a time.
-use Prim.Native.Nat.{ℕ, zero, suc, _+_, _-_, _*_, _≤_, _<_}
+use Prim.Native.Nat.{ℕ, zero, suc, _+_, _-_, _*_, _<_}
 use mathlib.Core.Path.{_≡_, refl, sym, ap, _∙_}
 use mathlib.Core.Bool.{Bool, true, false}
 use mathlib.Core.List.{List, [], _∷_}
 use native.Mathlib.Numerals.{add-one}
 use native.Mathlib.Omega.{arith}
-use lib.ListN.{length, getD, take}
+use lib.ListN.{length, getD}
 use Rattle.std.proofs.shelf.Lists.{getD-take}
 use Rattle.std.proofs.shelf.Tests.{false≢true, true≢false}
 use Rattle.trays.specs.declared.tray.Tray.{Tray}
-use Rattle.trays.specs.Tray.{Grid, Keeps, frees, cellOf, poseAt, freeAhead, slid}
+use Rattle.trays.specs.Tray.{Grid, frees, cellOf, poseAt, freeAhead, slid}
 use Rattle.trays.specs.Held.{gridOf}
 use Rattle.trays.specs.Sliding.{slid-on, slid-off}
 use Rattle.trays.specs.Valid.{held-keeps}

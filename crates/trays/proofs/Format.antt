@@ -1,23 +1,21 @@
 -- The format of a tray's sheet: what keeps the rule is accepted in its spelling, and nothing else is.
-use Prim.Native.Nat.{ℕ, zero, suc, _+_, _*_, _≤_, _<_, _^_}
+use Prim.Native.Nat.{ℕ, zero, suc, _+_, _*_, _≤_, _<_}
 use mathlib.Core.Path.{_≡_, refl, sym, ap, _∙_, subst}
-use mathlib.Core.Bool.{Bool, true, false, cond}
+use mathlib.Core.Bool.{Bool, true, false}
 use mathlib.Core.List.{List, [], _∷_, _++_}
 use mathlib.Core.Logic.{inl, inr}
 use native.Mathlib.Omega.{arith}
 use lib.Dec.{leb, ltb, eqb}
 use lib.ListN.{length}
 use Rattle.std.proofs.shelf.Lists.{append-nil, append-assoc}
-use Rattle.std.proofs.shelf.Tests.{cond-true, cond-false, lt-ltb, le-leb, ltb-true, leb-true, eqb-true, false≢true, cases-bool}
-use Rattle.std.specs.declared.result.Result.{Result}
-use Rattle.std.specs.declared.result.Result.the-variants.{Ok, Err}
-use Rattle.refusals.specs.declared.Fault.{Fault}
-use Rattle.refusals.specs.declared.Refusal.{Refusal}
+use Rattle.std.proofs.shelf.Tests.{cond-true, cond-false, lt-ltb, le-leb, ltb-true, leb-true, eqb-true, cases-bool}
+use Rattle.std.specs.declared.result.Result.the-variants.{Ok}
 use Rattle.refusals.specs.declared.Refusal.the-variants.{OutsideLimit}
 use Rattle.numbers.specs.Number.{spell}
-use Rattle.numbers.specs.Grammar.{kinded, number, byte, tested, ended, within}
+use Rattle.numbers.specs.Grammar.{within}
 use Rattle.numbers.specs.Format.{OneSheet}
-use Rattle.numbers.proofs.Fields.{number-only, number-spell}
+use Rattle.numbers.proofs.Field.{number-only, number-spell}
+use Rattle.numbers.proofs.Grammar.{err-ok, tested-only, ended-only, kinded-only, within-true, within-only}
 use Rattle.trays.specs.Tray.{Grid, Keeps, frees}
 use Rattle.trays.specs.Sheet.{spellCell, spellCells, spellTray, goodCell, cellsLeft, trayFields, traySheet}
 
@@ -25,18 +23,6 @@ pub frees-append : (xs ys : List Bool) → frees (xs ++ ys) ≡ frees xs + frees
 frees-append [] ys = omega arith
 frees-append (true ∷ xs) ys = omega (arith, frees-append xs ys)
 frees-append (false ∷ xs) ys = frees-append xs ys
-
-pub within-true : (low high v : ℕ) → low ≤ v → v ≤ high → within low high v ≡ true
-within-true low high v h k = cond-true (leb low v) _ _ (le-leb low v h) ∙ le-leb v high k
-
-within-parts : (low high v : ℕ) → within low high v ≡ true → (low ≤ v) × (v ≤ high)
-within-parts low high v h =
-    let p = both-held (leb low v) (leb v high) h in
-    (leb-true low v (p .0), leb-true v high (p .1))
-  where
-    both-held : (a b : Bool) → cond a b false ≡ true → (a ≡ true) × (b ≡ true)
-    both-held true b e = (refl, e)
-    both-held false b e = absurd (false≢true e)
 
 -- a cell's spelling is good as long as the free cells are few
 good-spelled : (read : List Bool) (x : Bool) (cs : List Bool) → frees (read ++ (x ∷ cs)) ≤ 32 → goodCell read (spellCell x) ≡ true
@@ -56,28 +42,6 @@ cells-accepted whole rows columns read (x ∷ cs) h k =
     ∙ ap (λ y. cellsLeft whole rows columns (length cs) (read ++ (y ∷ [])) (spellCells cs)) (cell-spelled x)
     ∙ cells-accepted whole rows columns (read ++ (x ∷ [])) cs (rw append-assoc h) (rw append-assoc k)
     ∙ ap (λ ys. Ok (record { rows = rows; columns = columns; cells = ys })) (append-assoc read (x ∷ []) cs)
-
--- what is not accepted
-pub err-ok : {X : Type 0} (e : Fault) (x : X) → Err e ≡ Ok x → ⊥
-err-ok e x h = let z : _≡_ {A = ℕ} 0 1 = cc in omega arith
-
-tested-only : {X : Type 0} (ok : Bool) (e : Refusal) (whole rest : List ℕ) (go : Result X Fault) (x : X) → tested ok e whole rest go ≡ Ok x → (ok ≡ true) × (go ≡ Ok x)
-tested-only true e whole rest go x h = (refl, h)
-tested-only false e whole rest go x h = absurd (err-ok _ x h)
-
-ended-only : {X : Type 0} (whole rest : List ℕ) (y x : X) → ended whole rest y ≡ Ok x → (rest ≡ []) × (y ≡ x)
-ended-only whole [] y x h = (refl, cc)
-ended-only whole (b ∷ rest) y x h = absurd (err-ok _ x h)
-
-kinded-only : {X : Type 0} (k : ℕ) (whole : List ℕ) (go : List ℕ → Result X Fault) (x : X) → kinded k whole go ≡ Ok x → (rest : List ℕ) × (whole ≡ k ∷ rest) × (go rest ≡ Ok x)
-kinded-only k [] go x h = absurd (err-ok _ x h)
-kinded-only k (b ∷ rest) go x h =
-    let p = by-test (eqb b k) (go rest) _ h in
-    (rest, ap (λ c. c ∷ rest) (eqb-true b k (p .0)), p .1)
-  where
-    by-test : (t : Bool) (y : Result _ Fault) (e : Fault) → cond t y (Err e) ≡ Ok x → (t ≡ true) × (y ≡ Ok x)
-    by-test true y e q = (refl, q)
-    by-test false y e q = absurd (err-ok e x q)
 
 -- a good byte is a cell's spelling
 good-spells : (read : List Bool) (b : ℕ) → goodCell read b ≡ true → b ≡ spellCell (eqb b 0x2e)
@@ -148,8 +112,8 @@ fields-only whole rest t h =
     let q₁ = tested-only (within 1 16 (q .0)) OutsideLimit whole (p .1) _ t (q .4) in
     let w = cells-only whole (p .0) (q .0) (p .0 * q .0) [] (q .1) t (omega arith) (q₁ .1) in
     let made : Grid = record { rows = p .0; columns = q .0; cells = w .more } in
-    let sides = within-parts 1 16 (p .0) (p₁ .0) in
-    let sides₁ = within-parts 1 16 (q .0) (q₁ .0) in
+    let sides = within-only 1 16 (p .0) (p₁ .0) in
+    let sides₁ = within-only 1 16 (q .0) (q₁ .0) in
     let kept : Keeps made = record {
       some-row = sides .0;
       few-rows = sides .1;

@@ -1,7 +1,7 @@
 -- The steps of a move, of a tray that is held.
-use Prim.Native.Nat.{ℕ, zero, suc, _+_, _*_, _/_, _%_, _≤_, _<_}
-use mathlib.Core.Path.{_≡_, refl, sym, ap, _∙_, subst}
-use mathlib.Core.Bool.{Bool, true, false, cond}
+use Prim.Native.Nat.{ℕ, _*_, _/_, _%_, _≤_, _<_}
+use mathlib.Core.Path.{_≡_, sym, ap, _∙_, subst}
+use mathlib.Core.Bool.{Bool, true, false}
 use mathlib.Core.List.{List}
 use mathlib.Core.Logic.{inl, inr}
 use native.Mathlib.Omega.{arith}
@@ -9,16 +9,14 @@ use lib.Dec.{ltb}
 use lib.ListN.{length, getD}
 use Rattle.std.proofs.shelf.Lists.{getD-past}
 use Rattle.std.proofs.shelf.Tests.{cases-lt, both-ways, cond-true, cond-false, lt-ltb, le-ltb}
-use Rattle.std.specs.declared.result.Result.{Result}
 use Rattle.std.specs.declared.result.Result.the-variants.{Ok, Err}
-use Rattle.refusals.specs.declared.Refusal.{Refusal}
 use Rattle.refusals.specs.declared.Refusal.the-variants.{NoPose, NoAction}
-use Rattle.feeders.specs.Motion.{Motion, follows}
+use Rattle.feeders.specs.Motion.{follows}
 use Rattle.trays.specs.declared.tray.Tray.{Tray}
 use Rattle.trays.specs.declared.direction.Direction.{Direction}
 use Rattle.trays.specs.declared.direction.Direction.the-variants.{North, East, South, West}
 use Rattle.trays.specs.Directions.{tiltOf}
-use Rattle.trays.specs.Tray.{Grid, Keeps, frees, cellOf, poseAt, freeAhead, ahead, slid, slidTo, Tilts, trayMotion}
+use Rattle.trays.specs.Tray.{frees, cellOf, poseAt, freeAhead, ahead, slid, slidTo, Tilts, trayMotion}
 use Rattle.trays.specs.Held.{gridOf}
 use Rattle.trays.specs.Sliding.{ahead-free, held}
 use Rattle.trays.specs.Tilting.{row-in, column-in, start-slides}

@@ -1,13 +1,13 @@
 -- The slide of a part: what the model counts is a slide by the relation.
 use Prim.Native.Nat.{ℕ, zero, suc, _+_, _-_, _*_, _≤_, _<_}
-use mathlib.Core.Path.{_≡_, refl, sym, ap, _∙_}
+use mathlib.Core.Path.{_≡_, refl, ap, _∙_}
 use mathlib.Core.Bool.{Bool, true, false, cond}
-use mathlib.Core.Logic.{_⊎_, inl, inr}
+use mathlib.Core.Logic.{inl, inr}
 use native.Mathlib.Nat.{add-zero, sub-zero}
 use native.Mathlib.Omega.{arith}
-use Rattle.std.proofs.shelf.Tests.{cases-bool, cases-lt, false≢true, cond-true, cond-false, ltb-true, leb-true, le-ltb, lt-leb}
+use Rattle.std.proofs.shelf.Tests.{cases-bool, cases-lt, false≢true, cond-true, cond-false, ltb-true, le-ltb, lt-leb}
 use lib.Dec.{T, leb, ltb, leb·zero}
-use lib.ListN.{length, getD}
+use lib.ListN.{getD}
 use Rattle.trays.specs.Tray.{Grid, free, freeAhead, ahead, Slides, slid}
 
 -- what a test that holds says of its parts

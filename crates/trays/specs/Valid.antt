@@ -1,14 +1,11 @@
 -- Every tray that is held keeps the rule of trays.
 use Prim.Native.Nat.{ℕ, _+_, _*_, _≤_, _<_}
-use mathlib.Core.Path.{_≡_, sym, _∙_, subst}
-use native.Mathlib.Nat.{mul-comm}
 use native.Mathlib.Omega.{arith}
-use lib.ListN.{length, take, length-take}
 use Rattle.std.proofs.shelf.Bits.{mul-le, mul-add-lt}
 use Rattle.std.proofs.shelf.Lists.{length-take-le}
 use Rattle.feeders.specs.Motion.{Valid}
 use Rattle.trays.specs.declared.tray.Tray.{Tray}
-use Rattle.trays.specs.Tray.{Grid, Keeps, trayMotion}
+use Rattle.trays.specs.Tray.{Keeps, trayMotion}
 use Rattle.trays.specs.Held.{gridOf}
 use Rattle.trays.specs.Tilting.{tray-valid}
 

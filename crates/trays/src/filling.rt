@@ -1,5 +1,4 @@
 // Filling a tray from its sheet.
-ghost use Prim.Native.Nat.{ℕ};
 ghost use mathlib.Core.Bool.{true};
 ghost use mathlib.Core.List.{[], _∷_};
 ghost use mathlib.Core.Path.{_≡_};
@@ -8,10 +7,10 @@ ghost use Rattle.refusals.specs.Outcomes.{Leaves};
 ghost use Rattle.trays.specs.Held.{gridOf};
 ghost use Rattle.trays.specs.Sheet.{spellTray, trayFields, traySheet};
 ghost use Rattle.trays.specs.Tray.{Keeps};
-use crate::reading::cut_short;
-use crate::reading::fault_at;
 use crate::reading::read_fields;
 use crate::tray::Tray;
+use numbers::cut_short;
+use numbers::fault_at;
 use refusals::Fault;
 use refusals::Refusal;
 

@@ -7,7 +7,7 @@ ghost use Rattle.refusals.specs.declared.Refusal.the-variants.{NoPose};
 ghost use Rattle.std.specs.Results.{Cases};
 ghost use Rattle.trays.specs.Directions.{tiltOf};
 ghost use Rattle.trays.specs.Held.{gridOf};
-ghost use Rattle.trays.specs.Tray.{free, freeAhead, ahead, slid, cellOf, poseAt, frees, trayMotion, Tilts};
+ghost use Rattle.trays.specs.Tray.{free, freeAhead, ahead, slid, cellOf, poseAt, trayMotion, Tilts};
 use crate::direction::Direction;
 use crate::tray::Tray;
 use refusals::Refusal;
@@ -54,6 +54,7 @@ impl Tray {
                 seen += 1;
             }
         }
+        // Not reached: a pose that the tray has is found above.
         0
     }
 

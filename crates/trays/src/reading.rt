@@ -1,17 +1,15 @@
 // Reading a tray from the fields of its sheet. Nothing is written before all is read.
 ghost use Prim.Native.Nat.{_*_, _≤_};
-ghost use lib.ListN.{length, take};
 ghost use mathlib.Core.List.{[]};
-ghost use mathlib.Core.Path.{_≡_};
-ghost use Rattle.numbers.specs.Grammar.{cutShort, faultAt};
-ghost use Rattle.refusals.specs.declared.Reader.the-variants.{Sheet};
-ghost use Rattle.trays.specs.Reads.{Sides, Allowed, Cell, Comes};
+ghost use Rattle.refusals.specs.Outcomes.{Gives};
+ghost use Rattle.trays.specs.Held.{gridOf};
+ghost use Rattle.trays.specs.Reads.{Cell};
 ghost use Rattle.trays.specs.Sheet.{cellsLeft, trayFields};
-ghost use Rattle.trays.specs.Tray.{frees};
 use crate::tray::Tray;
-use numbers::Number;
+use numbers::cut_short;
+use numbers::fault_at;
+use numbers::limited;
 use refusals::Fault;
-use refusals::Reader;
 use refusals::Refusal;
 
 // The most rows, and the most columns.
@@ -25,40 +23,6 @@ const FREE: u8 = 0x2E;
 
 // The byte of a wall, a hash.
 const WALL: u8 = 0x23;
-
-// Bytes that end early: the place is their end.
-pub(crate) fn cut_short(sheet: &[u8]) -> Fault
-    ensures { λ r. ⌜ r ≡ cutShort Sheet (now (sheet .entry)) ⌝ }
-{
-    Fault {
-        refusal: Refusal::EndsEarly,
-        place: sheet.len(),
-        reader: Reader::Sheet,
-    }
-}
-
-// Any other fault: the place is the first byte of the field, at which `rest` starts.
-pub(crate) fn fault_at(refusal: Refusal, sheet: &[u8], rest: &[u8]) -> Fault
-    ensures { λ r. ⌜ r ≡ faultAt refusal Sheet (now (sheet .entry)) (now (rest .entry)) ⌝ }
-{
-    Fault {
-        refusal,
-        place: sheet.len().saturating_sub(rest.len()),
-        reader: Reader::Sheet,
-    }
-}
-
-// How many rows or columns there are.
-fn read_side<'a>(sheet: &[u8], rest: &'a [u8]) -> Result<Number<'a>, Fault>
-    ensures reads { λ r. ⌜ Sides (now (sheet .entry)) (now (rest .entry)) r ⌝ }
-    ensures allowed { λ r. ⌜ Allowed r ⌝ }
-{
-    let side = numbers::read_in(sheet, rest)?;
-    if side.value < 1 || side.value > LONGEST_SIDE {
-        return Err(fault_at(Refusal::OutsideLimit, sheet, rest));
-    }
-    Ok(side)
-}
 
 // Whether the cell of a byte is free, where `free` cells are free before it; none if the byte is bad there.
 fn read_cell(byte: u8, free: u32) -> Option<bool>
@@ -74,7 +38,7 @@ fn read_cell(byte: u8, free: u32) -> Option<bool>
 // The tray of so many rows and columns whose cells stand in `bytes`.
 fn read_cells(sheet: &[u8], bytes: &[u8], rows: u32, columns: u32) -> Result<Tray, Fault>
     requires { ⌜ 1 ≤ rows ⌝ ∗ ⌜ rows ≤ 16 ⌝ ∗ ⌜ 1 ≤ columns ⌝ ∗ ⌜ columns ≤ 16 ⌝ }
-    ensures { λ r. ⌜ Comes (cellsLeft (now (sheet .entry)) rows columns (rows * columns) [] (now (bytes .entry))) r ⌝ }
+    ensures { λ r. ⌜ Gives gridOf (cellsLeft (now (sheet .entry)) rows columns (rows * columns) [] (now (bytes .entry))) r ⌝ }
 {
     let mut cells = [false; 256];
     let mut free = 0;
@@ -108,9 +72,9 @@ fn read_cells(sheet: &[u8], bytes: &[u8], rows: u32, columns: u32) -> Result<Tra
 
 // The tray of a sheet's fields, which are the end of the sheet.
 pub(crate) fn read_fields(sheet: &[u8], fields: &[u8]) -> Result<Tray, Fault>
-    ensures { λ r. ⌜ Comes (trayFields (now (sheet .entry)) (now (fields .entry))) r ⌝ }
+    ensures { λ r. ⌜ Gives gridOf (trayFields (now (sheet .entry)) (now (fields .entry))) r ⌝ }
 {
-    let rows = read_side(sheet, fields)?;
-    let columns = read_side(sheet, rows.rest)?;
+    let rows = limited(sheet, fields, 1, LONGEST_SIDE)?;
+    let columns = limited(sheet, rows.rest, 1, LONGEST_SIDE)?;
     read_cells(sheet, columns.rest, rows.value, columns.value)
 }

@@ -7,20 +7,21 @@ ghost use Rattle.gates.specs.Gates.{Keeps, idle};
 ghost use Rattle.gates.specs.Held.{gatesOf};
 ghost use Rattle.gates.specs.Sheet.{gateFields, gateSheet, gatesLeft, spellRow};
 ghost use Rattle.numbers.specs.Format.{OneSheet};
-ghost use Rattle.refusals.specs.Outcomes.{Leaves};
-ghost use Rattle.std.specs.Results.{Cases};
-ghost use Rattle.std.specs.declared.result.Result.the-variants.{Ok, Err};
-use crate::fields::count;
-use crate::fields::fault_at;
+ghost use Rattle.refusals.specs.Outcomes.{Gives, Leaves};
 use crate::fields::gate_in;
 use crate::gate::Gate;
 use crate::row::GateRow;
+use numbers::cut_short;
+use numbers::fault_at;
+use numbers::limited;
 use refusals::Fault;
-use refusals::Reader;
 use refusals::Refusal;
 
 // The byte in front of a gate row's fields.
 const KIND: u8 = 3;
+
+// The most poses, and the most gates, that a row has.
+const MOST: u32 = 32;
 
 // A gate that turns nothing.
 const IDLE: Gate = Gate { set: 0, turn: 0 };
@@ -43,11 +44,7 @@ impl GateRow {
         ensures format { λ _. ⌜ OneSheet Keeps spellRow gateSheet ⌝ }
     {
         let [kind, fields @ ..] = sheet else {
-            return Err(Fault {
-                refusal: Refusal::EndsEarly,
-                place: 0,
-                reader: Reader::Sheet,
-            });
+            return Err(cut_short(sheet));
         };
         if *kind != KIND {
             return Err(fault_at(Refusal::WrongKind, sheet, sheet));
@@ -66,10 +63,10 @@ impl GateRow {
 
 // The row that the fields describe.
 fn row_in(sheet: &[u8], fields: &[u8]) -> Result<GateRow, Fault>
-    ensures { λ r. ⌜ Cases r (λ t. gateFields (now (sheet .entry)) (now (fields .entry)) ≡ Ok (gatesOf t)) (λ e. gateFields (now (sheet .entry)) (now (fields .entry)) ≡ Err e) ⌝ }
+    ensures { λ r. ⌜ Gives gatesOf (gateFields (now (sheet .entry)) (now (fields .entry))) r ⌝ }
 {
-    let poses = count(sheet, fields)?;
-    let actions = count(sheet, poses.rest)?;
+    let poses = limited(sheet, fields, 1, MOST)?;
+    let actions = limited(sheet, poses.rest, 1, MOST)?;
     let gates = gates_in(sheet, actions.rest, poses.value, actions.value)?;
     Ok(GateRow {
         poses: poses.value,
@@ -81,7 +78,7 @@ fn row_in(sheet: &[u8], fields: &[u8]) -> Result<GateRow, Fault>
 // The gates of a row, after which nothing is left.
 fn gates_in(sheet: &[u8], fields: &[u8], poses: u32, actions: u32) -> Result<[Gate; 32], Fault>
     requires { ⌜ poses ≤ 32 ⌝ ∗ ⌜ actions ≤ 32 ⌝ }
-    ensures { λ r. ⌜ Cases r (λ gs. gatesLeft (now (sheet .entry)) poses actions [] (now (fields .entry)) ≡ Ok (record { poses = poses; gates = take actions gs })) (λ e. gatesLeft (now (sheet .entry)) poses actions [] (now (fields .entry)) ≡ Err e) ⌝ }
+    ensures { λ r. ⌜ Gives (λ gs. record { poses = poses; gates = take actions gs }) (gatesLeft (now (sheet .entry)) poses actions [] (now (fields .entry))) r ⌝ }
 {
     let mut gates = [IDLE; 32];
     let mut rest = fields;

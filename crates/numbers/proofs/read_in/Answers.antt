@@ -3,7 +3,7 @@ use mathlib.Core.Path.{sym, _∙_, ap}
 use Rattle.std.specs.declared.result.Result.the-variants.{Err}
 use Rattle.refusals.specs.declared.Refusal.{Refusal}
 use Rattle.numbers.specs.Grammar.{numberFault}
-use Rattle.numbers.proofs.Fields.{numberFault-refusal}
+use Rattle.numbers.proofs.Field.{numberFault-refusal}
 use Rattle.numbers.proofs.Reading.{readBy-numberAt}
 use Rattle.numbers.proofs.read_in.Needs as need
 

@@ -1,11 +1,13 @@
 -- Each way out of the reader is that of squeezeFields; what is read keeps the rule, since nothing else is accepted.
-use mathlib.Core.Path.{_≡_, _∙_}
+use mathlib.Core.Path.{_≡_, sym, _∙_}
 use Prim.Native.Nat.{ℕ, _≤_}
+use native.Mathlib.Omega.{arith}
 use borrow.Author.Needs.{needs}
 use lib.ListN.{length, take}
 use Rattle.std.specs.declared.result.Result.the-variants.{Ok}
 use Rattle.std.proofs.shelf.Results.{err-from-errBy}
-use Rattle.squeeze.specs.Sheet.{squeezeFields}
+use Rattle.numbers.specs.Number.{Read}
+use Rattle.squeeze.specs.Sheet.{stepsLeft, squeezeFields}
 use Rattle.squeeze.specs.Squeeze.{Keeps}
 use Rattle.squeeze.proofs.Made as made
 use Rattle.squeeze.proofs.Readings.{ticks-err, steps-err, turns-err, heads-ok}
@@ -39,6 +41,7 @@ returns-in-Break-turns c =
 
 pub ghost-result : need.ghost-result
 ghost-result c =
+    let whole = c .args .sheet .now in
     let ticks : ℕ = c .in-Continue-ticks .ticks .value in
     let m : ℕ = c .in-Continue-step-count .step-count .value in
     let k : ℕ = c .in-Continue-turn-count .turn-count .value in

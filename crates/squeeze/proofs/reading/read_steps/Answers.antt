@@ -1,5 +1,5 @@
 -- One step more is read, or the fault of the one that is refused is that of them all.
-use mathlib.Core.Path.{_∙_}
+use mathlib.Core.Path.{_≡_, _∙_}
 use native.Mathlib.Omega.{arith}
 use Prim.Native.Nat.{_<_}
 use lib.ListN.{length}

@@ -1,6 +1,6 @@
 -- Each byte is a cell, or the fault at that byte.
 use Prim.Native.Nat.{_<_, _*_}
-use mathlib.Core.Path.{_≡_, sym, _∙_, ap}
+use mathlib.Core.Path.{sym, _∙_, ap}
 use borrow.Author.Needs.{needs}
 use native.Mathlib.Omega.{arith}
 use lib.ListN.{length, getD, length-set}

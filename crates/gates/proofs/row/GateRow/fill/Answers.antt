@@ -1,12 +1,10 @@
 -- The kind byte in front of the fields.
-use mathlib.Core.Path.{subst}
 use borrow.Author.Needs.{needs}
-use Rattle.std.specs.declared.result.Result.{Result}
-use Rattle.refusals.specs.declared.Fault.{Fault}
-use Rattle.refusals.specs.Outcomes.{Leaves}
-use Rattle.gates.specs.Gates.{Gates}
+use Rattle.refusals.proofs.Outcomes.{leaves-like}
+use Rattle.numbers.proofs.Grammar.{kinded-fields}
 use Rattle.gates.specs.Held.{gatesOf}
-use Rattle.gates.proofs.Sheets.{one-sheet, right-kind}
+use Rattle.gates.specs.Sheet.{gateFields}
+use Rattle.gates.proofs.Sheets.{one-sheet}
 use Rattle.gates.proofs.row.GateRow.fill.Needs as need
 
 pub returns-in-rest : need.returns-in-rest
@@ -16,7 +14,6 @@ pub returns-then-kind-ne-KIND : need.returns-then-kind-ne-KIND
 returns-then-kind-ne-KIND c = record { reads = search needs; format = one-sheet }
 
 pub returns : need.returns
-returns c = record {
-  reads = subst (λ (x : Result Gates Fault). Leaves gatesOf x (c .args .self .now) (c .fill-fields .last .self) (c .fill-fields .result)) (right-kind (c .args .sheet .now) (c .if-kind-ne-KIND .left)) (c .fill-fields .ensures);
-  format = one-sheet;
-}
+returns c =
+    let fields = kinded-fields 3 (c .args .sheet .now) (gateFields (c .args .sheet .now)) (search needs) (c .if-kind-ne-KIND .left) in
+    record { reads = leaves-like gatesOf (c .args .self .now) (c .fill-fields .last .self) (c .fill-fields .result) fields (c .fill-fields .ensures); format = one-sheet }

@@ -1,10 +1,9 @@
 -- The index of a cell inside the tray is below its size.
 use Prim.Native.Nat.{_+_, _*_, _<_}
-use mathlib.Core.Bool.{false, cond}
-use mathlib.Core.Path.{_≡_, sym, _∙_}
+use mathlib.Core.Bool.{false}
+use mathlib.Core.Path.{sym, _∙_}
 use native.Mathlib.Omega.{arith}
 use lib.Dec.{ltb}
-use lib.ListN.{getD}
 use Rattle.std.proofs.shelf.Lists.{getD-take}
 use Rattle.std.proofs.shelf.Tests.{cond-true, lt-ltb}
 use Rattle.trays.specs.Valid.{held-size, held-index}

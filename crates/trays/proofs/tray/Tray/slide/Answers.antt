@@ -1,5 +1,5 @@
 -- Each free cell lengthens the slide, and the first that is not ends it.
-use Prim.Native.Nat.{_≤_, _-_}
+use Prim.Native.Nat.{_-_}
 use mathlib.Core.Path.{_≡_, sym, _∙_, ap}
 use native.Mathlib.Omega.{arith}
 use Rattle.trays.specs.Directions.{tiltOf}

@@ -1,0 +1,4 @@
+pub mod SeriesRows
+pub mod Performing
+pub mod Counting
+pub mod Filling
