@@ -1,0 +1,3 @@
+pub mod Levels
+pub mod Searches
+pub mod Table
