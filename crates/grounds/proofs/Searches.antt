@@ -1,13 +1,13 @@
 -- What a table that passes says of the first step of the way to the nearest goal.
-use mathlib.Core.Path.{_≡_, refl, sym, subst}
+use mathlib.Core.Path.{_≡_, subst}
 use mathlib.Core.Logic.{inl, inr}
 use mathlib.Core.List.{List}
-use Prim.Native.Nat.{ℕ, zero, suc, _+_, _-_, _≤_, _<_}
+use Prim.Native.Nat.{ℕ, zero, suc, _-_, _<_}
 use native.Mathlib.Omega.{arith}
 use lib.Dec.{T}
 use Rattle.std.proofs.shelf.Tests.{cases-eq}
 use Rattle.graphs.specs.Graph.{Graph, Sound}
-use Rattle.graphs.specs.Distance.{Usable, Distance, NoDistance, First}
+use Rattle.graphs.specs.Distance.{Distance, NoDistance, First}
 use Rattle.graphs.specs.Certificate.{none, told, Passes}
 use Rattle.graphs.specs.Laws.{DistanceLaws}
 use Rattle.graphs.proofs.Distances.{distance-unique, distance-not-none, distance-zero, first-unique, way-unique, way-leads, way-distance}

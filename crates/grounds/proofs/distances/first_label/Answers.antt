@@ -1,7 +1,7 @@
 -- A label one nearer is found exactly where the entry is 1 or more.
 use mathlib.Core.Path.{_≡_, sym, subst, _∙_}
 use mathlib.Core.Logic.{inl, inr}
-use Prim.Native.Nat.{ℕ, suc, _-_, _<_}
+use Prim.Native.Nat.{ℕ, _-_, _<_}
 use native.Mathlib.Omega.{arith}
 use Rattle.graphs.specs.Certificate.{told}
 use Rattle.grounds.specs.Level.{LabelTo, NoLabelTo}

@@ -1,14 +1,13 @@
 -- The first label found is the lowest; where the labels end, there is none.
 use mathlib.Core.Path.{_≡_, sym, subst, _∙_, ap}
 use mathlib.Core.Logic.{inl, inr}
-use Prim.Native.Nat.{ℕ, _+_, _≤_, _<_}
+use Prim.Native.Nat.{ℕ}
 use native.Mathlib.Omega.{arith}
 use lib.Dec.{T}
-use lib.ListN.{length, getD}
+use lib.ListN.{getD}
 use Rattle.std.proofs.shelf.Tests.{cases-lt}
 use Rattle.feeders.specs.Sets.{has}
 use Rattle.feeders.proofs.Sets.{T-of-true, not-T-of-false}
-use Rattle.graphs.specs.Distance.{Usable}
 use Rattle.graphs.specs.Certificate.{told}
 use Rattle.grounds.proofs.Levels.{told-read}
 use Rattle.grounds.proofs.distances.label_to.Needs as need

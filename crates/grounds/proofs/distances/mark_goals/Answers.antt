@@ -1,11 +1,9 @@
 -- Each turn marks one goal more; all are marked at the end.
-use mathlib.Core.Path.{_≡_, sym, subst, _∙_}
-use mathlib.Core.List.{List}
+use mathlib.Core.Path.{_≡_, sym, subst}
 use Prim.Native.Nat.{ℕ, _+_, _<_}
 use native.Mathlib.Omega.{arith}
 use lib.ListN.{length}
 use Rattle.feeders.proofs.Sets.{T-of-true, not-T-of-false}
-use Rattle.graphs.specs.Certificate.{none}
 use Rattle.grounds.specs.Level.{Marked}
 use Rattle.grounds.proofs.Levels.{marked-none, marked-goal, marked-other}
 use Rattle.grounds.proofs.distances.mark_goals.Needs as need

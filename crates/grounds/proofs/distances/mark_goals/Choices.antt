@@ -1,6 +1,4 @@
 -- What the loop keeps: the goals passed are marked, and nothing else.
-use mathlib.Core.Path.{_≡_}
-use lib.ListN.{length}
 use Rattle.grounds.specs.Level.{Marked}
 use Rattle.grounds.proofs.distances.mark_goals.Given as given
 

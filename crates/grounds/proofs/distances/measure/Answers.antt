@@ -1,5 +1,4 @@
 -- The goals are level 0, and a level that is not empty is below the number of nodes.
-use Prim.Native.Nat.{_+_, _<_}
 use native.Mathlib.Omega.{arith}
 use Rattle.grounds.proofs.Levels.{level-zero, level-below}
 use Rattle.grounds.proofs.distances.measure.Needs as need

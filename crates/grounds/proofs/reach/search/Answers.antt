@@ -1,6 +1,6 @@
 -- The four answers, each in the words of distances.
 use mathlib.Core.Path.{_≡_, refl, sym, subst, _∙_}
-use Prim.Native.Nat.{ℕ, suc, _≤_, _<_}
+use Prim.Native.Nat.{suc, _<_}
 use native.Mathlib.Omega.{arith}
 use Rattle.feeders.proofs.Sets.{T-of-true, not-T-of-false}
 use Rattle.graphs.specs.Distance.{Distance}

@@ -1,5 +1,5 @@
 -- The pairs of n poses end where those with the greater pose n - 1 do.
-use mathlib.Core.Path.{_≡_, refl, sym, ap, _∙_}
+use mathlib.Core.Path.{_≡_, ap, _∙_}
 use Prim.Native.Nat.{ℕ, zero, suc, _+_, _-_, _≤_}
 use native.Mathlib.Omega.{arith}
 use Rattle.graphs.specs.Pairs.{start}
