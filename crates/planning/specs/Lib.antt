@@ -1,0 +1,4 @@
+pub mod Planned
+pub mod Round
+pub mod Scan
+pub mod Walk
