@@ -1,8 +1,14 @@
-// The program: reads the feeder's sheet, and tells whether it is good.
+// The program: reads the feeder's sheet, and plans from all its poses with all its actions.
 ghost use Prim.Native.Nat.{_≤_};
 ghost use lib.ListN.{length};
 ghost use Rattle.std.specs.Vec.{made};
+use planning::plan_every;
+use plans::Plan;
+use scripts::action_line;
 use scripts::fault_line;
+use scripts::plan_line;
+use sheets::SheetFeeder;
+use sheets::SheetFeederFeeder;
 use std::fs::File;
 use std::io;
 use std::io::Read;
@@ -39,11 +45,24 @@ fn sheet_bytes(rt: &LibcRuntime, buffer: &mut [u8; SHEET_MOST]) -> usize
     }
 }
 
+// Plans from all poses with all actions, and prints the answer and the plan's actions, one to a line.
+fn plan(rt: &LibcRuntime, feeder: &SheetFeeder) -> io::Result<()> {
+    let mut plan = Plan::new();
+    if let Err(refusal) = plan_every(feeder, u32::MAX, &mut plan) {
+        return rt.print(plan_line(rt.alloc(), Err(refusal))?);
+    }
+    rt.print(plan_line(rt.alloc(), Ok(plan.len()))?)?;
+    for action in plan.as_slice() {
+        rt.print(action_line(rt.alloc(), *action)?)?;
+    }
+    Ok(())
+}
+
 fn main(rt: LibcRuntime) -> io::Result<()> {
     let mut buffer = [0u8; SHEET_MOST];
     let filled = sheet_bytes(&rt, &mut buffer);
     match sheets::read(&buffer[0..filled]) {
-        Ok(_) => Ok(()),
+        Ok(feeder) => plan(&rt, &feeder),
         Err(fault) => rt.print(fault_line(rt.alloc(), fault)?),
     }
 }
