@@ -48,7 +48,7 @@ struct Tally {
     right: u32,
 }
 
-// The next random number: a byte from the upper half of the seed, which goes on.
+// The next random number: a byte from the upper half of the state, which goes on.
 fn random(seed: &mut u32) -> u8 {
     let next = seed.wrapping_mul(1664525).wrapping_add(1013904223);
     *seed = next;
