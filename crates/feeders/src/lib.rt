@@ -1,4 +1,6 @@
 // The meaning of a feeder, and what can be asked of any feeder.
+#![tactic(auto)]
+
 mod carry;
 mod feeder;
 mod same;

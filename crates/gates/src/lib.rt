@@ -1,4 +1,5 @@
 // Gate rows: for each action a set of poses and a turn.
+#![tactic(auto)]
 mod fields;
 mod gate;
 mod row;

@@ -1,4 +1,5 @@
 // Grounds: nodes, labels and goals, and the search for the nearest goal.
+#![tactic(auto)]
 mod distances;
 mod ground;
 mod pair_ground;

@@ -1,4 +1,5 @@
 // The job: a feeder, the permitted actions, the possible poses and perhaps a plan; and the calls that are made on it.
+#![tactic(auto)]
 mod calls;
 mod checks;
 mod job;

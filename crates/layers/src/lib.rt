@@ -1,4 +1,5 @@
 // Layers: feeders over any feeder.
+#![tactic(auto)]
 mod moves;
 mod numbering;
 mod renumbering;

@@ -1,4 +1,5 @@
 // The pair rule: plans that bring a set of poses to one; and the way from one pose to another.
+#![tactic(auto)]
 mod aim;
 mod every;
 mod nearest;

@@ -1,4 +1,5 @@
 // Plan records: one record for each plan.
+#![tactic(auto)]
 mod reading;
 mod writing;
 

@@ -1,4 +1,6 @@
 // The numbered refusals that every call of the planner may answer, and the fault of a refused sheet or record.
+#![tactic(auto)]
+
 ghost use Rattle.std.specs.Prelude.{◌≡◌};
 ghost use Rattle.refusals.specs.Numbers.{number_of};
 

@@ -1,4 +1,5 @@
 // A script's lines, served one by one on a job.
+#![tactic(auto)]
 mod reply;
 mod service;
 

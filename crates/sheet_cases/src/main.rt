@@ -1,4 +1,5 @@
 // Many sheets, good and refused: prints for each what comes of it.
+#![tactic(auto)]
 use feeders::Feeder;
 use scripts::fault_line;
 use std::io;

@@ -1,4 +1,5 @@
 // Tilting trays: the part slides to the last free cell before a wall or the rim.
+#![tactic(auto)]
 mod direction;
 mod feeding;
 mod filling;
