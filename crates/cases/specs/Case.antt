@@ -3,8 +3,8 @@ use Rattle.std.specs.Prelude.{◌≡◌, ℕ, zero, suc, cond, List, [], ◌∷�
 use Rattle.feeders.specs.Motion.{Motion, follows}
 use Rattle.numbers.specs.Number.{spell, number_at}
 use Rattle.sheets.specs.Described.{Described, described, motion_of}
-use Rattle.layers.specs.Series as seriesLayer
-use Rattle.layers.specs.Renumbering as numberLayer
+use Rattle.layers.specs.Series as series_layer
+use Rattle.layers.specs.Renumbering as number_layer
 use Rattle.layers.specs.Numbered.{Filled}
 use Rattle.histories.specs.History.{EndsAt}
 use Rattle.histories.specs.Rules.{Plans, Answer, Rule}
@@ -27,21 +27,21 @@ place_of q [] = 0
 place_of q (x ∷ w) = cond (x == q) 0 (suc (place_of q w))
 
 -- the renumbering table of 32 places that the list fills: past the list each place holds its own number
-abbrev pub numbering : List ℕ → numberLayer.Numbering
+abbrev pub numbering : List ℕ → number_layer.Numbering
 numbering list =
     record { count = length list; number = listed (λ p. slice_index_or list p p) 32; place = listed (λ q. place_of q (listed (λ p. slice_index_or list p p) 32)) 32 }
 
 -- the motion of a feeder under the layer
 abbrev pub under : Layer → Motion → Motion
 under bare m = m
-under (series ss) m = seriesLayer.series_motion m ss
-under (renumbered list) m = numberLayer.renumbered_motion m (numbering list)
+under (series ss) m = series_layer.series_motion m ss
+under (renumbered list) m = number_layer.renumbered_motion m (numbering list)
 
 -- the layer keeps the rule of its table, and a renumbering table is filled by its list
 abbrev pub Stands : Layer → Type 0
 Stands bare = Unit {0}
-Stands (series ss) = seriesLayer.Keeps ss
-Stands (renumbered list) = numberLayer.Keeps (numbering list) × Filled list (numbering list)
+Stands (series ss) = series_layer.Keeps ss
+Stands (renumbered list) = number_layer.Keeps (numbering list) × Filled list (numbering list)
 
 -- The calls, made in their order after the history h with the plan `before`, are answered so, each by the rules, and leave the plan `after`.
 pub data Answered (m : Motion) : List Call → Plans → List Call → List Answer → Plans → Type 0 where

@@ -24,8 +24,8 @@ pub fn same_feeder<F: Feeder, G: Feeder>(first: &F, second: &G) -> bool
 // Whether every action leads from `pose` to the same pose, in feeders with the same poses and actions.
 fn same_moves<F: Feeder, G: Feeder>(first: &F, second: &G, pose: u32) -> bool
     requires pose_bound { pose < (F.Feeder.motion first.now).poses }
-    requires first_value { (F.Feeder.motion first.now).poses ≡ (G.Feeder.motion second.now).poses }
-    requires first_value_2 { (F.Feeder.motion first.now).actions ≡ (G.Feeder.motion second.now).actions }
+    requires same_poses { (F.Feeder.motion first.now).poses ≡ (G.Feeder.motion second.now).poses }
+    requires same_actions { (F.Feeder.motion first.now).actions ≡ (G.Feeder.motion second.now).actions }
     ensures { T result ↔ ((a : ℕ) → a < (F.Feeder.motion first.now).actions → (F.Feeder.motion first.now).next pose a ≡ (G.Feeder.motion second.now).next pose a) }
 {
     for action in 0..first.actions() {

@@ -8,7 +8,7 @@ use Rattle.graphs.specs.Certificate.{none, told, Passes}
 use Rattle.graphs.proofs.Distances.{leads_cons, distance_unique, goal-distance, distance_zero, distance_next, distance_step}
 use Rattle.graphs.proofs.Bounds.{distance_below}
 use Rattle.graphs.proofs.Certificates.{decide_T}
-use Rattle.grounds.specs.Level.{Level, Sweeping, Marked, LabelTo, NoLabelTo, LabelFound}
+use Rattle.grounds.specs.Level.{Level, Sweeping, Swept, Marked, LabelTo, NoLabelTo, LabelFound}
 
 -- ---- entries
 
@@ -221,6 +221,6 @@ level_ends g s d table h p = record {
               (a, r.1, omega (arith, distance_unique g s (g.next v a) (told table (g.next v a)) e (p.known (g.next v a) m to_some).1 r.2))
         ]
 
-pub sweep_ends : (g : Graph) (s d : ℕ) (any : Bool) (table : List ℕ) → Sound g → Sweeping g s d g.nodes any table → cond any (Level g s (suc d) table) (Passes g s table)
+pub sweep_ends : (g : Graph) (s d : ℕ) (any : Bool) (table : List ℕ) → Sound g → Sweeping g s d g.nodes any table → Swept g s d any table
 sweep_ends g s d true table h p = level_next g s d table p
 sweep_ends g s d false table h p = level_ends g s d table h p

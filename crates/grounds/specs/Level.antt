@@ -1,8 +1,8 @@
 -- What the search for distances keeps, level by level.
-use Rattle.std.specs.Prelude.{◌≡◌, ℕ, suc, ◌<◌, ◌≤◌, Bool, T, ◌⊎◌, List, length, Some, None, Option, ◌≢◌}
+use Rattle.std.specs.Prelude.{◌≡◌, ℕ, suc, ◌<◌, ◌≤◌, Bool, T, ◌⊎◌, List, length, true, false, Some, None, Option, ◌≢◌}
 use Rattle.graphs.specs.Graph.{Graph}
 use Rattle.graphs.specs.Distance.{Usable, Leads, Distance}
-use Rattle.graphs.specs.Certificate.{none, told}
+use Rattle.graphs.specs.Certificate.{Passes, none, told}
 
 -- The table has the distances of all nodes at distance d or less, and no entry for the others.
 pub record Level (g : Graph) (s d : ℕ) (table : List ℕ) : Type 0 where
@@ -18,6 +18,11 @@ pub record Sweeping (g : Graph) (s d k : ℕ) (any : Bool) (table : List ℕ) : 
   pub passed : (v : ℕ) → v < g.nodes → v < k → told table v ≡ none → (w : List ℕ) → Leads g s v w → suc d < length w
   pub given : T any → (v : ℕ) × (v < g.nodes) × Distance g s v (suc d)
   pub not_given : (T any → ⊥) → (v : ℕ) → v < g.nodes → (told table v ≢ none) → told table v ≤ d
+
+-- What the sweep after level d leaves: the next level where an entry was given, and else the table that passes.
+abbrev pub Swept : Graph → ℕ → ℕ → Bool → List ℕ → Type 0
+Swept g s d true table = Level g s (suc d) table
+Swept g s d false table = Passes g s table
 
 -- The goals below k have entry 0, and no other node has one.
 pub record Marked (g : Graph) (k : ℕ) (table : List ℕ) : Type 0 where

@@ -1,8 +1,8 @@
 // The distances of all nodes of a ground, found level by level.
-ghost use Rattle.std.specs.Prelude.{◌≡◌, suc, ◌<◌, replicate, if◌then◌else◌};
+ghost use Rattle.std.specs.Prelude.{◌≡◌, ◌<◌, replicate};
 ghost use Rattle.graphs.specs.Certificate.{Passes, told};
 ghost use Rattle.grounds.specs.Reach.{StepsTo, distance_told};
-ghost use Rattle.grounds.specs.Level.{Level, LabelFound, Marked};
+ghost use Rattle.grounds.specs.Level.{Level, LabelFound, Marked, Swept};
 
 use crate::ground::Ground;
 use crate::steps::{at_goal, has_label, node_after};
@@ -77,7 +77,7 @@ fn mark_goals<G: Ground>(ground: &G, table: &mut [u16; NODES])
 // Gives the nodes at distance `level + 1` their entries, and says whether there is one.
 fn sweep<G: Ground>(ground: &G, permitted: u32, table: &mut [u16; NODES], level: u16) -> bool
     requires { Level (G.Ground.graph ground.now) permitted level table.old }
-    ensures { if result then Level (G.Ground.graph ground.now) permitted (suc level) table.new else Passes (G.Ground.graph ground.now) permitted table.new }
+    ensures { Swept (G.Ground.graph ground.now) permitted level result table.new }
 {
     let mut any = false;
     for node in 0..ground.nodes() {

@@ -1,6 +1,6 @@
 // One series: up to eight actions of the feeder below.
 ghost use Rattle.std.specs.Prelude.{◌≡◌, ◌<◌, ◌≤◌};
-ghost use Rattle.layers.specs.Rows.{empty as emptyRow, pushed, series_in};
+ghost use Rattle.layers.specs.Rows.{empty as empty_row, pushed, series_in};
 
 #[derive(Clone, Copy)]
 pub struct Row {
@@ -11,7 +11,7 @@ pub struct Row {
 impl Row {
     // The row of a series without actions.
     pub(crate) fn empty() -> Row
-        ensures { result ≡ emptyRow }
+        ensures { result ≡ empty_row }
     {
         Row {
             actions: [0; 8],

@@ -1,4 +1,4 @@
--- How the number reader goes, from group to group. It reads what numberAt says (proofs/Reading.antt).
+-- How the number reader goes, from group to group. It reads what number_at says (proofs/Reading.antt).
 use Rattle.std.specs.Prelude.{ℕ, zero, suc, ◌+◌, ◌*◌, ◌%◌, ◌^◌, cond, List, [], ◌∷◌, Ok, Err, Result, ◌==◌, nat_lt}
 use Rattle.refusals.specs.declared.Refusal.{Refusal}
 use Rattle.refusals.specs.declared.Refusal.TheVariants.{EndsEarly, BadNumber}

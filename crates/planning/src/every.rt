@@ -1,6 +1,6 @@
 // A plan from all poses of a feeder.
 ghost use Rattle.std.specs.Prelude.{◌≡◌, ℕ, ◌-◌, ◌^◌, ◌≤◌, ◌↔◌, List, Err};
-ghost use Rattle.graphs.specs.PairRule.{Orients, every as everyPose};
+ghost use Rattle.graphs.specs.PairRule.{Orients, every as every_pose};
 ghost use Rattle.planning.specs.Planned.{Planned};
 ghost use Rattle.refusals.specs.declared.Refusal.TheVariants.{CannotOrient};
 
@@ -20,8 +20,8 @@ fn all_poses(poses: u32) -> u32
 // The plan becomes the one that the pair rule gives from all poses with the permitted actions.
 // "Cannot be oriented" is answered exactly when no list of permitted actions, of any length, brings all poses to one.
 pub fn plan_every<F: Feeder>(feeder: &F, permitted: u32, plan: &mut Plan) -> Result<(), Refusal>
-    ensures planned { Planned (F.Feeder.motion feeder.now) permitted (everyPose (F.Feeder.motion feeder.now)) plan.old plan.new result }
-    ensures exact { (result ≡ Err CannotOrient) ↔ ((w : List ℕ) → Orients (F.Feeder.motion feeder.now) permitted (everyPose (F.Feeder.motion feeder.now)) w → ⊥) }
+    ensures planned { Planned (F.Feeder.motion feeder.now) permitted (every_pose (F.Feeder.motion feeder.now)) plan.old plan.new result }
+    ensures exact { (result ≡ Err CannotOrient) ↔ ((w : List ℕ) → Orients (F.Feeder.motion feeder.now) permitted (every_pose (F.Feeder.motion feeder.now)) w → ⊥) }
 {
     let every = all_poses(feeder.poses());
     plan_pairs(feeder, permitted, every, plan)

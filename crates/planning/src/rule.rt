@@ -57,7 +57,7 @@ pub fn plan_pairs<F: Feeder>(
 // Where the list brings the set, for poses and actions that the feeder has.
 fn brought<F: Feeder>(feeder: &F, set: u32, list: &[u8]) -> u32
     requires set_bound { set < 2 ^ (F.Feeder.motion feeder.now).poses }
-    requires t { T (all_below (F.Feeder.motion feeder.now).actions list.now) }
+    requires list_bound { T (all_below (F.Feeder.motion feeder.now).actions list.now) }
     ensures { result ≡ image_of (F.Feeder.motion feeder.now) set list.now }
 {
     match image(feeder, set, list) {

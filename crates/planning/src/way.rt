@@ -17,8 +17,8 @@ pub(crate) fn append_way<G: Ground>(
 )
     requires passes { Passes (G.Ground.graph ground.now) permitted distances.now.table }
     requires node_bound { node < (G.Ground.graph ground.now).nodes }
-    requires node_bound_2 { told distances.now.table node < none }
-    requires node_len_bound { length (list_of plan.old) + told distances.now.table node ≤ 16384 }
+    requires reached { told distances.now.table node < none }
+    requires room { length (list_of plan.old) + told distances.now.table node ≤ 16384 }
     ensures { Extends (G.Ground.graph ground.now) permitted node (list_of plan.old) (list_of plan.new) }
 {
     let mut here = node;

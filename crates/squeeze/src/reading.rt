@@ -3,7 +3,7 @@ ghost use Rattle.std.specs.Prelude.{◌≡◌, ◌<◌, ◌≤◌, [], ◌∷◌
 ghost use Rattle.numbers.specs.Field.{read_of};
 ghost use Rattle.refusals.specs.Outcomes.{Gives};
 ghost use Rattle.squeeze.specs.Reading.{GivesSteps, GivesTurns, begin_at, row_at, row_of};
-ghost use Rattle.squeeze.specs.Sheet.{follows as isAbove, settles as restsRight};
+ghost use Rattle.squeeze.specs.Sheet.{follows as is_above, settles as rests_right};
 ghost use Rattle.squeeze.specs.Squeeze.{begin as beginning};
 
 use crate::step::Step;
@@ -27,7 +27,7 @@ pub(crate) struct StepsRead<'a> {
 // Whether a beginning is above the last rest of the `count` steps read.
 fn is_above(steps: &[Step; 32], count: u32, begin: u32) -> bool
     requires { count ≤ 32 }
-    ensures { result ≡ isAbove (take count steps.now) begin }
+    ensures { result ≡ is_above (take count steps.now) begin }
 {
     if count == 0 {
         return true;
@@ -50,7 +50,7 @@ fn first_begin(steps: &[Step; 32], count: u32, step: Step) -> u32
 // Whether a step may rest where it does: not below its beginning and, where no step is left, below the first beginning of the next half turn.
 fn rests_right(ticks: u32, left: u32, steps: &[Step; 32], count: u32, step: Step) -> bool
     requires { count < 32 }
-    ensures { result ≡ restsRight ticks left (take count steps.now) step.begin step.rest }
+    ensures { result ≡ rests_right ticks left (take count steps.now) step.begin step.rest }
 {
     if step.rest < step.begin {
         return false;

@@ -34,8 +34,8 @@ pub fn write_trace<F: Feeder>(
 // Writes the rows, for poses and actions that the feeder has and a buffer with room.
 fn write_rows<F: Feeder>(feeder: &F, set: u32, list: &[u8], buffer: &mut [u8])
     requires set_bound { set < 2 ^ (F.Feeder.motion feeder.now).poses }
-    requires t { T (all_below (F.Feeder.motion feeder.now).actions list.now) }
-    requires list_in_bounds { 12 * (length list.now + 1) ≤ length buffer.old }
+    requires list_bound { T (all_below (F.Feeder.motion feeder.now).actions list.now) }
+    requires room { 12 * (length list.now + 1) ≤ length buffer.old }
     ensures { buffer.new ≡ trace_of (F.Feeder.motion feeder.now) set list.now ++ drop (12 * (length list.now + 1)) buffer.old }
 {
     write_row(&mut buffer[0..12], None, set);

@@ -1,6 +1,6 @@
 // What a job tells of itself. None of these calls changes it.
 ghost use Rattle.std.specs.Prelude.{◌≡◌, ◌+◌, ◌*◌, ◌≤◌, length, IfOk};
-ghost use Rattle.histories.specs.History.{permitted as permittedSet, possible as possibleSet};
+ghost use Rattle.histories.specs.History.{permitted as permitted_set, possible as possible_set};
 ghost use Rattle.histories.specs.Rules.{length_of};
 ghost use Rattle.jobs.specs.Reach.{plan_of};
 ghost use Rattle.jobs.specs.Tells.{Actions, EndPose, Tells, Traces, Writes};
@@ -22,14 +22,14 @@ impl<F: Feeder> Job<F> {
 
     // The permitted actions, as a set.
     pub fn permitted(&self) -> u32
-        ensures { Tells (F.Feeder.motion self.now.feeder) self.now (λ h plan. result ≡ permittedSet (F.Feeder.motion self.now.feeder) h) }
+        ensures { Tells (F.Feeder.motion self.now.feeder) self.now (λ h plan. result ≡ permitted_set (F.Feeder.motion self.now.feeder) h) }
     {
         self.allowed
     }
 
     // The possible poses, as a set.
     pub fn possible(&self) -> u32
-        ensures { Tells (F.Feeder.motion self.now.feeder) self.now (λ h plan. result ≡ possibleSet (F.Feeder.motion self.now.feeder) h) }
+        ensures { Tells (F.Feeder.motion self.now.feeder) self.now (λ h plan. result ≡ possible_set (F.Feeder.motion self.now.feeder) h) }
     {
         self.poses
     }

@@ -3,7 +3,7 @@ ghost use Rattle.std.specs.Prelude.{◌≡◌, ◌<◌, ◌≤◌, MatchResult, 
 ghost use Rattle.refusals.specs.declared.Refusal.TheVariants.{OutsideLimit};
 ghost use Rattle.layers.specs.Numbered.{numbering_of, Unchanged, Filled};
 ghost use Rattle.layers.specs.Once.{Fills};
-ghost use Rattle.layers.specs.Renumbering.{above as above_of, below as belowOf};
+ghost use Rattle.layers.specs.Renumbering.{above as above_of, below as below_of};
 
 use crate::numbering::RenumberTable;
 use crate::numbering::lists::{numbers_of, once_each, own_numbers, places_of};
@@ -80,7 +80,7 @@ impl RenumberTable {
     // The pose below of a number above, in a feeder of `poses` poses.
     pub(crate) fn below(&self, poses: u32, pose: u32) -> u32
         requires { pose < 32 }
-        ensures { result ≡ belowOf (numbering_of self.now) poses pose }
+        ensures { result ≡ below_of (numbering_of self.now) poses pose }
     {
         if self.applies(poses) {
             u32::from(self.place[pose as usize])

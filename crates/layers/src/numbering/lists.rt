@@ -1,10 +1,10 @@
 // Lists of numbers: which of them fill a table, and the two arrays that such a list makes.
 ghost use Rattle.std.specs.Prelude.{◌≡◌, ℕ, ◌<◌, ◌≤◌, T, ◌↔◌, length, slice_index};
-ghost use Rattle.layers.specs.Once.{times as timesOf, OnceEach, Fills};
+ghost use Rattle.layers.specs.Once.{times as times_of, OnceEach, Fills};
 
 // How many times the number stands in the list.
 fn times(list: &[u8], number: usize) -> usize
-    ensures { result ≡ timesOf number list.now }
+    ensures { result ≡ times_of number list.now }
 {
     let mut found = 0;
     for entry in list {

@@ -3,4 +3,4 @@ use Rattle.numbers.proofs.Spelling.{one_spelling}
 use Rattle.numbers.proofs.read.Goals as goal
 
 pub returns : goal.returns
-returns c = record { reads = c.read-in.ensures.reads; spelling = one_spelling }
+returns c = record { reads = c.read_in.ensures.reads; spelling = one_spelling }

@@ -1,4 +1,4 @@
--- What was read group by group is what numberAt says.
+-- What was read group by group is what number_at says.
 use Rattle.std.proofs.Common.{Err, sym, ap, ◌∙◌}
 use Rattle.refusals.specs.declared.Refusal.{Refusal}
 use Rattle.numbers.specs.Grammar.{number_fault}

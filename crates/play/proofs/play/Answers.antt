@@ -5,14 +5,14 @@ use Rattle.sessions.specs.Served.{after_lines, history_of}
 use Rattle.scripts.specs.Split.{lines_of}
 use Rattle.play.proofs.play.Goals as goal
 
-pub shape-of-rows-in-err-answer-line : goal.shape-of-rows-in-err-answer-line
-shape-of-rows-in-err-answer-line g c = c.serve-reply.auto.buffer ∙ c.loop-line.invariant.0
+pub shape-of-rows-in_err-answer_line : goal.shape-of-rows-in_err-answer_line
+shape-of-rows-in_err-answer_line g c = c.serve-reply.auto.buffer ∙ c.loop-line.invariant.0
 
-pub shape-of-rows-in-err-print : goal.shape-of-rows-in-err-print
-shape-of-rows-in-err-print g c = c.serve-reply.auto.buffer ∙ c.loop-line.invariant.0
+pub shape-of-rows-in_err-print : goal.shape-of-rows-in_err-print
+shape-of-rows-in_err-print g c = c.serve-reply.auto.buffer ∙ c.loop-line.invariant.0
 
-pub shape-of-rows-in-err-write-all : goal.shape-of-rows-in-err-write-all
-shape-of-rows-in-err-write-all g c = c.serve-reply.auto.buffer ∙ c.loop-line.invariant.0
+pub shape-of-rows-in_err-write_all : goal.shape-of-rows-in_err-write_all
+shape-of-rows-in_err-write_all g c = c.serve-reply.auto.buffer ∙ c.loop-line.invariant.0
 
 pub shape-of-rows : goal.shape-of-rows
 shape-of-rows g c = c.loop-line.invariant.0
@@ -28,6 +28,6 @@ returns g c =
     let served = c.loop-line.invariant.2 in
     let h = served.0 in
     let plan = served.1.0 in
-    let whole : h ≡ history_of script = sym (ap (λ (rest : List ℕ). after_lines (lines_of rest) h) (none_left c.loop-line.rest.now c.in-default.ensures.first)) ∙ served.2 in
+    let whole : h ≡ history_of script = sym (ap (λ (rest : List ℕ). after_lines (lines_of rest) h) (none_left c.loop-line.rest.now c.in_default.ensures.first)) ∙ served.2 in
     let reached = subst (λ f. Reached (g.F.Feeder.motion f) h plan job) c.new-job.ensures.same served.1.1 in
     (plan, subst (λ (x : List Call). Reached (g.F.Feeder.motion c.args.feeder) x plan job) whole reached)

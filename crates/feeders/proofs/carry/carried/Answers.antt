@@ -6,8 +6,8 @@ use Rattle.feeders.proofs.Sets.{all_below-get_or}
 use Rattle.feeders.proofs.Images.{brings_more}
 use Rattle.feeders.proofs.carry.carried.Goals as goal
 
-pub pose-after-here-requires : goal.pose-after-here-requires
-pose-after-here-requires g c =
+pub pose_after-here-requires : goal.pose_after-here-requires
+pose_after-here-requires g c =
     let m = g.F.Feeder.motion c.args.feeder.now in
     let i = c.loop-action.action-index in
     let below : get_or c.args.list.now i 0 < m.actions = (all_below-get_or m.actions c.args.list.now).0 c.requires.1 i c.loop-action-test.true in
@@ -18,7 +18,7 @@ loop-action-preserved g c =
     let m = g.F.Feeder.motion c.args.feeder.now in
     let list = c.args.list.now in
     let step = brings_more m c.args.pose list c.loop-action.action-index c.loop-action-test.true in
-    (c.pose-after-here.ensures.stays, cc)
+    (c.pose_after-here.ensures.stays, cc)
 
 pub returns : goal.returns
 returns g c =

@@ -8,8 +8,8 @@ returns-then-not-within g c =
     let f = c.args.feeder.now in
     record { answer = search rules; laws = image_laws (g.F.Feeder.motion f) (g.F.Feeder.valid f) }
 
-pub returns-then-not-all-below : goal.returns-then-not-all-below
-returns-then-not-all-below g c =
+pub returns-then-not-all_below : goal.returns-then-not-all_below
+returns-then-not-all_below g c =
     let f = c.args.feeder.now in
     record { answer = search rules; laws = image_laws (g.F.Feeder.motion f) (g.F.Feeder.valid f) }
 

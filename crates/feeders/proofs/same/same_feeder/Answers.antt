@@ -11,5 +11,5 @@ loop-pose-preserved g c p a hp ha =
       | inl l ↦ c.loop-pose.invariant p a l ha
       | inr r ↦
           let e : p ≡ c.loop-pose.pose = omega arith in
-          subst (λ (x : ℕ). m.next x a ≡ n.next x a) (sym e) (c.if-not-same-moves.ensures.0 tt a ha)
+          subst (λ (x : ℕ). m.next x a ≡ n.next x a) (sym e) (c.if-not-same_moves.ensures.0 tt a ha)
     ]

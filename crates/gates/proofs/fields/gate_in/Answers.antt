@@ -5,16 +5,16 @@ use Rattle.std.proofs.lemmas.Result.{err_from_is_err_and}
 use Rattle.gates.proofs.OneGate.{set_refused, turn_refused, gate_accepted}
 use Rattle.gates.proofs.fields.gate_in.Goals as goal
 
-pub returns-in-err-set : goal.returns-in-err-set
-returns-in-err-set c =
-    let p = err_from_is_err_and c.from-residual.result c.from-residual.ensures.1 in
-    rw (p.1, p.2) (set_refused _ c.args.poses c.args.sheet.now c.args.rest.now _ (one_shl c.args.poses 64 (omega (arith, c.requires))) c.in-err-set.ensures.gives)
+pub returns-in_err-set : goal.returns-in_err-set
+returns-in_err-set c =
+    let p = err_from_is_err_and c.from_residual.result c.from_residual.ensures.1 in
+    rw (p.1, p.2) (set_refused _ c.args.poses c.args.sheet.now c.args.rest.now _ (one_shl c.args.poses 64 (omega (arith, c.requires))) c.in_err-set.ensures.gives)
 
-pub returns-in-err-turn : goal.returns-in-err-turn
-returns-in-err-turn c =
-    let p = err_from_is_err_and c.from-residual-in-err-turn.result c.from-residual-in-err-turn.ensures.1 in
-    rw (p.1, p.2) (turn_refused _ c.from.result c.args.poses c.args.sheet.now c.args.rest.now _ _ (one_shl c.args.poses 64 (omega (arith, c.requires))) c.from.ensures c.in-ok-set.ensures.gives c.in-err-turn.ensures.gives)
+pub returns-in_err-turn : goal.returns-in_err-turn
+returns-in_err-turn c =
+    let p = err_from_is_err_and c.from_residual-in_err-turn.result c.from_residual-in_err-turn.ensures.1 in
+    rw (p.1, p.2) (turn_refused _ c.from.result c.args.poses c.args.sheet.now c.args.rest.now _ _ (one_shl c.args.poses 64 (omega (arith, c.requires))) c.from.ensures c.in_ok-set.ensures.gives c.in_err-turn.ensures.gives)
 
 pub returns : goal.returns
 returns c =
-    gate_accepted _ c.from.result c.args.poses c.args.sheet.now c.args.rest.now _ _ (one_shl c.args.poses 64 (omega (arith, c.requires))) c.from.ensures c.in-ok-set.ensures.gives c.in-ok-turn.ensures.gives
+    gate_accepted _ c.from.result c.args.poses c.args.sheet.now c.args.rest.now _ _ (one_shl c.args.poses 64 (omega (arith, c.requires))) c.from.ensures c.in_ok-set.ensures.gives c.in_ok-turn.ensures.gives

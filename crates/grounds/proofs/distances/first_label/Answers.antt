@@ -28,7 +28,7 @@ returns-in-Some g c p =
     let found : LabelTo t s table v (told table v - 1) c.in-Some.label = subst (λ (i : ℕ). LabelTo t s table v (i - 1) c.in-Some.label) e c.in-Some.ensures in (
       l,
       label_first t s table v c.in-Some.label (g.G.Ground.sound x) p l (λ z. c.if-entry-eq0.false (e ∙ z)) (λ z. c.if-entry.false (e ∙ z)) found,
-      c.node-after.ensures.is,
+      c.node_after.ensures.is,
     )
 
 pub returns-in-None : goal.returns-in-None

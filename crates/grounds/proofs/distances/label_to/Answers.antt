@@ -6,18 +6,18 @@ use Rattle.feeders.proofs.Sets.{T_of_true, not-T_of_false}
 use Rattle.graphs.specs.Certificate.{told}
 use Rattle.grounds.proofs.Levels.{told_read}
 use Rattle.grounds.proofs.distances.label_to.Goals as goal
-use Rattle.grounds.proofs.distances.label_to.Goals.{else-has-label-via-then-has-label+else-table-node-after, else-has-label-via-else-has-label}
+use Rattle.grounds.proofs.distances.label_to.Goals.{else-has_label-via-then-has_label+else-table-node_after, else-has_label-via-else-has_label}
 
-pub returns-then-table-node-after : goal.returns-then-table-node-after
-returns-then-table-node-after g c =
+pub returns-then-table-node_after : goal.returns-then-table-node_after
+returns-then-table-node_after g c =
     let t = g.G.Ground.graph c.args.ground.now in
     let table = c.args.table.now in
     let a = c.loop-label.label in
-    let v = c.node-after.result in
-    let read : get_or table v 0 ≡ told table v = told_read table v (omega (arith, c.node-after.ensures.few)) in
+    let v = c.node_after.result in
+    let read : get_or table v 0 ≡ told table v = told_read table v (omega (arith, c.node_after.ensures.few)) in
     record {
-      usable = (omega (arith, c.labels-label-end.ensures), T_of_true (has c.args.permitted a) (sym c.if-has-label.ensures));
-      leads = ap (told table) (sym c.node-after.ensures.is) ∙ sym read ∙ c.if-table-node-after.true;
+      usable = (omega (arith, c.labels-label-end.ensures), T_of_true (has c.args.permitted a) (sym c.if-has_label.ensures));
+      leads = ap (told table) (sym c.node_after.ensures.is) ∙ sym read ∙ c.if-table-node_after.true;
       lowest = λ b u e. elim (cases_lt b a) [ inl l ↦ absurd (c.loop-label.invariant b l u e) | inr m ↦ m ];
     }
 
@@ -30,13 +30,13 @@ loop-label-preserved g c b l u e =
       | inl m ↦ c.loop-label.invariant b m u e
       | inr m ↦
           let q : b ≡ a = omega arith in
-          elim c.else-has-label.branch [
-            | else-has-label-via-then-has-label+else-table-node-after w ↦
-                let v = w.node-after.result in
-                let read : get_or table v 0 ≡ told table v = told_read table v (omega (arith, w.node-after.ensures.few)) in
-                w.if-table-node-after.false (read ∙ ap (told table) w.node-after.ensures.is ∙ ap (λ (i : ℕ). told table (t.next c.args.node i)) (sym q) ∙ e)
-            | else-has-label-via-else-has-label w ↦
-                not-T_of_false (has c.args.permitted a) (sym w.if-has-label.ensures) (subst (λ (i : ℕ). T (has c.args.permitted i)) q u.1)
+          elim c.else-has_label.branch [
+            | else-has_label-via-then-has_label+else-table-node_after w ↦
+                let v = w.node_after.result in
+                let read : get_or table v 0 ≡ told table v = told_read table v (omega (arith, w.node_after.ensures.few)) in
+                w.if-table-node_after.false (read ∙ ap (told table) w.node_after.ensures.is ∙ ap (λ (i : ℕ). told table (t.next c.args.node i)) (sym q) ∙ e)
+            | else-has_label-via-else-has_label w ↦
+                not-T_of_false (has c.args.permitted a) (sym w.if-has_label.ensures) (subst (λ (i : ℕ). T (has c.args.permitted i)) q u.1)
           ]
     ]
 

@@ -9,10 +9,10 @@ use Rattle.grounds.proofs.reach.search.Goals as goal
 pub returns-then-node-nodes : goal.returns-then-node-nodes
 returns-then-node-nodes g c = record { answer = (omega (arith, c.nodes.ensures), refl); laws = distance_laws }
 
-pub returns-then-at-goal : goal.returns-then-at-goal
-returns-then-at-goal g c =
+pub returns-then-at_goal : goal.returns-then-at_goal
+returns-then-at_goal g c =
     let t = g.G.Ground.graph c.args.ground.now in
-    record { answer = (omega (arith, c.nodes.ensures), T_of_true (t.goal c.args.node) (sym c.if-at-goal.ensures)); laws = distance_laws }
+    record { answer = (omega (arith, c.nodes.ensures), T_of_true (t.goal c.args.node) (sym c.if-at_goal.ensures)); laws = distance_laws }
 
 pub returns-in-Some : goal.returns-in-Some
 returns-in-Some g c =
@@ -35,4 +35,4 @@ returns-in-None g c =
     let table = c.measure-distances.result.table in
     let p = c.measure-distances.ensures.passes in
     let l : v < t.nodes = omega (arith, c.nodes.ensures) in
-    record { answer = (l, no_step_none t s table v (g.G.Ground.sound x) p l (not-T_of_false (t.goal v) (sym c.if-at-goal.ensures)) (c.in-None.ensures p)); laws = distance_laws }
+    record { answer = (l, no_step_none t s table v (g.G.Ground.sound x) p l (not-T_of_false (t.goal v) (sym c.if-at_goal.ensures)) (c.in-None.ensures p)); laws = distance_laws }

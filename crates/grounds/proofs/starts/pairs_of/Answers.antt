@@ -8,4 +8,4 @@ start_pred zero h = let z : ⊥ = omega arith in absurd z
 start_pred (suc n) h = let e : suc n - 1 ≡ n = omega arith in ap (λ (k : ℕ). start k + k) e
 
 pub returns : goal.returns
-returns c = let n = c.args.n in record { is = ap (λ (x : ℕ). x + (n - 1)) c.start-of.ensures.is ∙ start_pred n c.requires.0; few = omega (arith, c.start-of.ensures.few) }
+returns c = let n = c.args.n in record { is = ap (λ (x : ℕ). x + (n - 1)) c.start_of.ensures.is ∙ start_pred n c.requires.0; few = omega (arith, c.start_of.ensures.few) }

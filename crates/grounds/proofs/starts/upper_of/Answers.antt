@@ -21,12 +21,12 @@ upper-none : (q v : ℕ) → q ≤ 0 → upper q v ≡ 0
 upper-none zero v h = refl
 upper-none (suc q) v h = let z : ⊥ = omega arith in absurd z
 
-pub returns-then-start-of-node : goal.returns-then-start-of-node
-returns-then-start-of-node c =
+pub returns-then-start_of-node : goal.returns-then-start_of-node
+returns-then-start_of-node c =
     let n = c.args.n in
     let v = c.args.node in
     let q = c.loop-q.q in
-    let is : q - 1 ≡ upper n v = sym (c.loop-q.invariant ∙ upper_begun q v c.loop-q-test.true (omega (arith, c.start-of.ensures.is))) in
+    let is : q - 1 ≡ upper n v = sym (c.loop-q.invariant ∙ upper_begun q v c.loop-q-test.true (omega (arith, c.start_of.ensures.is))) in
     let r = upper_pair n v c.requires.1 in
     record {
       is = is;
@@ -37,7 +37,7 @@ returns-then-start-of-node c =
 
 pub loop-q-preserved : goal.loop-q-preserved
 loop-q-preserved c =
-    c.loop-q.invariant ∙ upper_later c.loop-q.q c.args.node c.loop-q-test.true (omega (arith, c.start-of.ensures.is))
+    c.loop-q.invariant ∙ upper_later c.loop-q.q c.args.node c.loop-q-test.true (omega (arith, c.start_of.ensures.is))
 
 pub returns : goal.returns
 returns c =

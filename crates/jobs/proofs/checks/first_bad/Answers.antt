@@ -20,8 +20,8 @@ loop-action-preserved g c =
     let perm = c.args.allowed in
     let w = c.args.list.now in
     let i = c.loop-action.action-index in
-    let judged : checked m perm (get_or w i 0) ≡ Ok c.in-default.field-0 = ap (checked m perm) (sym c.from.ensures) ∙ sym c.in-default.ensures in
-    sym (first_bad_later m perm (get_or w i 0) (drop (i + 1) w) c.in-default.field-0 judged) ∙ sym (at_drop_more (first_bad m perm) w i 0 c.loop-action-test.true) ∙ c.loop-action.invariant
+    let judged : checked m perm (get_or w i 0) ≡ Ok c.in_default.field-0 = ap (checked m perm) (sym c.from.ensures) ∙ sym c.in_default.ensures in
+    sym (first_bad_later m perm (get_or w i 0) (drop (i + 1) w) c.in_default.field-0 judged) ∙ sym (at_drop_more (first_bad m perm) w i 0 c.loop-action-test.true) ∙ c.loop-action.invariant
 
 pub returns : goal.returns
 returns g c =

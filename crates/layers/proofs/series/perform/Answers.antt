@@ -17,7 +17,7 @@ loop-entry-preserved g c =
     let z = brings m c.args.pose (present m.actions xs) in
     elim c.if-action-actions.branch [
       | then-action-actions w ↦
-          (omega (arith, w.here-is, w.pose-after-here.ensures.stays), rest-performs m here a w.pose-after-here.result q z xs i c.loop-entry-test.true c.from-action.ensures (omega (arith, w.if-action-actions.true)) w.pose-after-here.ensures.is w.here-is c.loop-entry.invariant.1)
+          (omega (arith, w.here-is, w.pose_after-here.ensures.stays), rest-performs m here a w.pose_after-here.result q z xs i c.loop-entry-test.true c.from-action.ensures (omega (arith, w.if-action-actions.true)) w.pose_after-here.ensures.is w.here-is c.loop-entry.invariant.1)
       | else-action-actions w ↦
           (omega (arith, w.here-is, c.loop-entry.invariant.0), rest-passes_over m here a q z xs i c.loop-entry-test.true c.from-action.ensures (omega (arith, w.if-action-actions.false)) w.here-is c.loop-entry.invariant.1)
     ]

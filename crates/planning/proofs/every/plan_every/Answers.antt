@@ -10,9 +10,9 @@ use Rattle.planning.proofs.every.plan_every.Goals as goal
 pub returns : goal.returns
 returns g c =
     let m = g.F.Feeder.motion c.args.feeder.now in
-    let all : c.all-poses-every.result ≡ every m = c.all-poses-every.ensures ∙ ap (λ n. 2 ^ n - 1) c.poses.ensures in
+    let all : c.all_poses-every.result ≡ every m = c.all_poses-every.ensures ∙ ap (λ n. 2 ^ n - 1) c.poses.ensures in
     record {
-      planned = subst (λ (s : ℕ). Planned m c.args.permitted s c.args.plan.now c.plan-pairs.new.plan c.plan-pairs.result) all c.plan-pairs.ensures.planned;
-      exact = subst (λ (s : ℕ). (c.plan-pairs.result ≡ Err CannotOrient) ↔ ((w : List ℕ) → Orients m c.args.permitted s w → ⊥)) all
-          (c.plan-pairs.ensures.exact [] tt (all ∙ sym (image-empty m (every m) (every-below m))));
+      planned = subst (λ (s : ℕ). Planned m c.args.permitted s c.args.plan.now c.plan_pairs.new.plan c.plan_pairs.result) all c.plan_pairs.ensures.planned;
+      exact = subst (λ (s : ℕ). (c.plan_pairs.result ≡ Err CannotOrient) ↔ ((w : List ℕ) → Orients m c.args.permitted s w → ⊥)) all
+          (c.plan_pairs.ensures.exact [] tt (all ∙ sym (image-empty m (every m) (every-below m))));
     }

@@ -4,4 +4,4 @@ use Rattle.planning.proofs.nearest.node_of.Goals as goal
 
 pub returns : goal.returns
 returns g c =
-    node_answered (g.F.Feeder.motion c.args.ground.now.feeder.now).poses c.args.p c.args.q c.in-Ok.node c.requires.0 c.requires.1 c.in-Ok.ensures
+    node_answered (g.F.Feeder.motion c.args.ground.now.feeder.now).poses c.args.p c.args.q c.in-Ok.node c.requires.p_lt_q c.requires.q_bound c.in-Ok.ensures

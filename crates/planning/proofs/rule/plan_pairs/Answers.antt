@@ -41,8 +41,8 @@ loop-ground-init g c =
     let below = set_below s c.from.result c.poses-n.result m.poses c.from.ensures c.poses-n.ensures c.if-from-n-ne0.false in
     subst (Round m c.args.permitted s s) (sym c.new-made.ensures) (round-starts m c.args.permitted s (g.F.Feeder.valid f) below c.if-set-eq0.false)
 
-pub returns-in-default : goal.returns-in-default
-returns-in-default g c =
+pub returns-in_default : goal.returns-in_default
+returns-in_default g c =
     let f = c.args.feeder.now in
     let m = g.F.Feeder.motion f in
     let s = c.args.set in
@@ -50,7 +50,7 @@ returns-in-default g c =
     let two = leb-true 2 (size c.loop-ground.here) (sym c.loop-ground-test.ensures) in
     let stuck =
     turn_stuck m (g.F.Feeder.motion c.new-ground.result.feeder.now) c.args.permitted s c.loop-ground.here c.poses-n.result (list_of c.loop-ground.made) c.measure-distances.result.table
-    (ap g.F.Feeder.motion c.new-ground.ensures) (g.F.Feeder.valid f) c.poses-n.ensures c.loop-ground.invariant c.measure-distances.ensures.passes two c.in-default.ensures in
+    (ap g.F.Feeder.motion c.new-ground.ensures) (g.F.Feeder.valid f) c.poses-n.ensures c.loop-ground.invariant c.measure-distances.ensures.passes two c.in_default.ensures in
     record {
       planned = (inr (below, refl, inl stuck), refl);
       exact = exact_stuck m c.args.permitted s (g.F.Feeder.valid f) stuck;
@@ -65,35 +65,35 @@ found g c =
     (ap g.F.Feeder.motion c.new-ground.ensures) (g.F.Feeder.valid f) c.poses-n.ensures c.loop-ground.invariant c.measure-distances.ensures.passes
     c.in-Some.pair.p c.in-Some.pair.q c.in-Some.pair.away c.in-Some.ensures
 
-pub node-of-requires : goal.node-of-requires
-node-of-requires g c = turn_pair (found g (goal.at.node-of-requires g c).In-Some)
+pub node_of-requires : goal.node_of-requires
+node_of-requires g c = turn_pair (found g (goal.at.node_of-requires g c).In-Some)
 
-pub append-way-requires : goal.append-way-requires
-append-way-requires g c = turn_ready (found g (goal.at.append-way-requires g c).In-Some) c.node-of.result c.node-of.ensures
+pub append_way-requires : goal.append_way-requires
+append_way-requires g c = turn_ready (found g (goal.at.append_way-requires g c).In-Some) c.node_of.result c.node_of.ensures
 
-pub slice-bounds-brought-count : goal.slice-bounds-brought-count
-slice-bounds-brought-count g c =
-    turn_part (found g (goal.at.slice-bounds-brought-count g c).In-Some) c.node-of.result c.node-of.ensures
-    (list_of c.append-way.new.plan) c.as-slice.result.now c.len-before.result c.append-way.ensures c.as-slice.ensures c.len-before.ensures.counts
+pub slice_bounds-brought-count : goal.slice_bounds-brought-count
+slice_bounds-brought-count g c =
+    turn_part (found g (goal.at.slice_bounds-brought-count g c).In-Some) c.node_of.result c.node_of.ensures
+    (list_of c.append_way.new.plan) c.as_slice.result.now c.len-before.result c.append_way.ensures c.as_slice.ensures c.len-before.ensures.counts
 
-pub slice-bounds-brought-start : goal.slice-bounds-brought-start
-slice-bounds-brought-start g c = slice-bounds-brought-count g c
+pub slice_bounds-brought-start : goal.slice_bounds-brought-start
+slice_bounds-brought-start g c = slice_bounds-brought-count g c
 
 pub brought-here-requires : goal.brought-here-requires
 brought-here-requires g c =
-    turn_list (found g (goal.at.brought-here-requires g c).In-Some) c.node-of.result c.node-of.ensures
-    (list_of c.append-way.new.plan) c.as-slice.result.now c.len-before.result c.append-way.ensures c.as-slice.ensures c.len-before.ensures.counts
+    turn_list (found g (goal.at.brought-here-requires g c).In-Some) c.node_of.result c.node_of.ensures
+    (list_of c.append_way.new.plan) c.as_slice.result.now c.len-before.result c.append_way.ensures c.as_slice.ensures c.len-before.ensures.counts
 
 pub loop-ground-smaller : goal.loop-ground-smaller
 loop-ground-smaller g c =
-    turn_falls (found g (goal.at.loop-ground-smaller g c).In-Some) c.node-of.result c.node-of.ensures
-    (list_of c.append-way.new.plan) c.as-slice.result.now c.len-before.result c.append-way.ensures c.as-slice.ensures c.len-before.ensures.counts
+    turn_falls (found g (goal.at.loop-ground-smaller g c).In-Some) c.node_of.result c.node_of.ensures
+    (list_of c.append_way.new.plan) c.as_slice.result.now c.len-before.result c.append_way.ensures c.as_slice.ensures c.len-before.ensures.counts
     c.brought-here.result c.brought-here.ensures
 
 pub loop-ground-preserved : goal.loop-ground-preserved
 loop-ground-preserved g c =
-    turn_more (found g (goal.at.loop-ground-preserved g c).In-Some) c.node-of.result c.node-of.ensures
-    (list_of c.append-way.new.plan) c.as-slice.result.now c.len-before.result c.append-way.ensures c.as-slice.ensures c.len-before.ensures.counts
+    turn_more (found g (goal.at.loop-ground-preserved g c).In-Some) c.node_of.result c.node_of.ensures
+    (list_of c.append_way.new.plan) c.as_slice.result.now c.len-before.result c.append_way.ensures c.as_slice.ensures c.len-before.ensures.counts
     c.brought-here.result c.brought-here.ensures
 
 pub returns : goal.returns

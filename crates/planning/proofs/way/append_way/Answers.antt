@@ -9,10 +9,10 @@ use Rattle.planning.proofs.way.append_way.Goals.{In-Some}
 -- what a turn knows of its label
 step : (g : given.Over) (c : In-Some g) → Step (g.G.Ground.graph c.args.ground.now) c.args.permitted c.args.distances.now.table c.args.node c.loop-label.here c.in-Some.label c.in-Some.next (list_of c.args.plan.now) (list_of c.loop-label.plan)
 step g c =
-    let found = c.in-Some.ensures c.requires.0 in
+    let found = c.in-Some.ensures c.requires.passes in
     record {
       ok = g.G.Ground.sound c.args.ground.now;
-      passes = c.requires.0;
+      passes = c.requires.passes;
       walking = c.loop-label.invariant;
       left = found.1.0;
       away = found.1.1;
@@ -27,11 +27,11 @@ pub unreachable-requires : goal.unreachable-requires
 unreachable-requires g c =
     let fits = walk-fits (step g (goal.at.unreachable-requires g c).In-Some) in
     let pushed = push_fits (list_of c.loop-label.plan) c.in-Some.label c.loop-label.plan c.push.new.self c.push.result fits c.push.ensures in
-    not_both (is_err c.push.result) pushed.0 c.if-is-err.ensures.value
+    not_both (is_err c.push.result) pushed.0 c.if-is_err.ensures.value
 
 pub loop-label-init : goal.loop-label-init
 loop-label-init g c =
-    walk-starts (g.G.Ground.graph c.args.ground.now) c.args.permitted c.args.distances.now.table c.args.node (list_of c.args.plan.now) c.requires.1 c.requires.2 c.requires.3
+    walk-starts (g.G.Ground.graph c.args.ground.now) c.args.permitted c.args.distances.now.table c.args.node (list_of c.args.plan.now) c.requires.node_bound c.requires.reached c.requires.room
 
 pub loop-label-smaller : goal.loop-label-smaller
 loop-label-smaller g c = walk_falls (step g (goal.at.loop-label-smaller g c).In-Some)
@@ -46,4 +46,4 @@ pub returns : goal.returns
 returns g c =
     let f = c.args.ground.now in
     walk_ends (g.G.Ground.graph f) c.args.permitted c.args.distances.now.table c.args.node c.loop-label.here (list_of c.args.plan.now) (list_of c.loop-label.plan)
-    (g.G.Ground.sound f) c.requires.0 c.loop-label.invariant (c.in-default.ensures c.requires.0)
+    (g.G.Ground.sound f) c.requires.passes c.loop-label.invariant (c.in_default.ensures c.requires.passes)

@@ -8,7 +8,7 @@ pub returns-then-i-rest : goal.returns-then-i-rest
 returns-then-i-rest c =
     c.loop-i.invariant.0
     ∙ list_left_over c.args.actions c.loop-i.i c.args.rest.now c.loop-i-test.true c.if-byte-eq-END.true c.if-i-rest.true
-    ∙ ap (λ (f : Fault). Err f) (sym c.fault-at.ensures)
+    ∙ ap (λ (f : Fault). Err f) (sym c.fault_at.ensures)
 
 pub returns-then-byte-eq-END : goal.returns-then-byte-eq-END
 returns-then-byte-eq-END c =
@@ -19,13 +19,13 @@ pub returns-then-from-actions : goal.returns-then-from-actions
 returns-then-from-actions c =
     c.loop-i.invariant.0
     ∙ list_outside c.args.actions c.loop-i.i c.args.rest.now c.loop-i-test.true c.if-byte-eq-END.false (search rules)
-    ∙ ap (λ (f : Fault). Err f) (sym c.fault-at-then-from-actions.ensures)
+    ∙ ap (λ (f : Fault). Err f) (sym c.fault_at-then-from-actions.ensures)
 
 pub returns-then-i-eq-ROOM : goal.returns-then-i-eq-ROOM
 returns-then-i-eq-ROOM c =
     c.loop-i.invariant.0
     ∙ list_too_long c.args.actions c.loop-i.i c.args.rest.now c.loop-i-test.true c.if-byte-eq-END.false (search rules) c.if-i-eq-ROOM.true
-    ∙ ap (λ (f : Fault). Err f) (sym c.fault-at-then-i-eq-ROOM.ensures)
+    ∙ ap (λ (f : Fault). Err f) (sym c.fault_at-then-i-eq-ROOM.ensures)
 
 pub loop-i-preserved : goal.loop-i-preserved
 loop-i-preserved c = (
@@ -37,4 +37,4 @@ pub returns : goal.returns
 returns c =
     c.loop-i.invariant.0
     ∙ list_cut c.args.actions c.loop-i.i c.args.rest.now (search rules)
-    ∙ ap (λ (f : Fault). Err f) (sym c.fault-at-2.ensures)
+    ∙ ap (λ (f : Fault). Err f) (sym c.fault_at-2.ensures)

@@ -7,8 +7,8 @@ use Rattle.records.proofs.Steps.{kind_passes}
 use Rattle.records.specs.Held.{contents_of}
 use Rattle.records.proofs.reading.read.Goals as goal
 
-pub returns-in-default : goal.returns-in-default
-returns-in-default c = record { reads = search rules; format = one_record; places = fault_places }
+pub returns-in_default : goal.returns-in_default
+returns-in_default c = record { reads = search rules; format = one_record; places = fault_places }
 
 pub returns-then-kind-ne-KIND : goal.returns-then-kind-ne-KIND
 returns-then-kind-ne-KIND c = record { reads = search rules; format = one_record; places = fault_places }
@@ -16,4 +16,4 @@ returns-then-kind-ne-KIND c = record { reads = search rules; format = one_record
 pub returns : goal.returns
 returns c =
     let fields = kind_passes c.args.bytes.now (search rules) c.if-kind-ne-KIND.false in
-    record { reads = gives_like contents_of c.fields-in.result fields c.fields-in.ensures; format = one_record; places = fault_places }
+    record { reads = gives_like contents_of c.fields_in.result fields c.fields_in.ensures; format = one_record; places = fault_places }

@@ -9,15 +9,15 @@ pub returns-then-end-rest : goal.returns-then-end-rest
 returns-then-end-rest c =
     record {
       some = search rules;
-      first = first_only c.args.rest.now c.line-end-end.result c.line-end-end.ensures.within c.line-end-end.ensures.before c.if-end-rest.true (search rules);
+      first = first_only c.args.rest.now c.line_end-end.result c.line_end-end.ensures.within c.line_end-end.ensures.before c.if-end-rest.true (search rules);
     }
 
 pub returns : goal.returns
 returns c =
     let rest = c.args.rest.now in
-    let end = c.line-end-end.result in
+    let end = c.line_end-end.result in
     let short : end < length rest = search rules in
     record {
       some = search rules;
-      first = rw (sub-zero, take_rest) (first_ended rest end c.line-end-end.ensures.within c.line-end-end.ensures.before short (c.line-end-end.ensures.found short));
+      first = rw (sub-zero, take_rest) (first_ended rest end c.line_end-end.ensures.within c.line_end-end.ensures.before short (c.line_end-end.ensures.found short));
     }

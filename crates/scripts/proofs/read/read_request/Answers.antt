@@ -7,22 +7,22 @@ use Rattle.scripts.proofs.read.read_request.Goals as goal
 pub returns-in-len1 : goal.returns-in-len1
 returns-in-len1 c = record { is = search rules; law = one_meaning }
 
-pub returns-in-err-number : goal.returns-in-err-number
-returns-in-err-number c =
+pub returns-in_err-number-in-32 : goal.returns-in_err-number-in-32
+returns-in_err-number-in-32 c =
     let line = c.args.line.now in
     let read = request_of-with line (search rules) (search rules) in
-    let number = ap (request_with (get_or line 0 0)) c.in-err-number.ensures in
+    let number = ap (request_with (get_or line 0 0)) c.in_err-number-in-32.ensures in
     record { is = cc; law = one_meaning }
 
-pub returns-in-ok-number : goal.returns-in-ok-number
-returns-in-ok-number c =
+pub returns-in_ok-number-in-32 : goal.returns-in_ok-number-in-32
+returns-in_ok-number-in-32 c =
     let line = c.args.line.now in
     let read = request_of-with line (search rules) (search rules) in
-    let number = ap (request_with (get_or line 0 0)) c.in-ok-number.ensures in
+    let number = ap (request_with (get_or line 0 0)) c.in_ok-number-in-32.ensures in
     record { is = cc; law = one_meaning }
 
-pub returns-in-default : goal.returns-in-default
-returns-in-default c = record { is = search rules; law = one_meaning }
+pub returns-in_default : goal.returns-in_default
+returns-in_default c = record { is = search rules; law = one_meaning }
 
-pub returns-in-default·2 : goal.returns-in-default·2
-returns-in-default·2 c = record { is = search rules; law = one_meaning }
+pub returns-in_default-2 : goal.returns-in_default-2
+returns-in_default-2 c = record { is = search rules; law = one_meaning }

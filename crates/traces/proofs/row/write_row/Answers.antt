@@ -6,7 +6,7 @@ use Rattle.traces.proofs.row.write_row.Goals.{in-Some, in-None}
 
 pub returns : goal.returns
 returns c =
-    let Row : Option ℕ → Type 0 = λ a. c.copy-from-slice.new.self ≡ row_of a c.args.set in
+    let Row : Option ℕ → Type 0 = λ a. c.copy_from_slice.new.self ≡ row_of a c.args.set in
     elim c.match-action.branch [
       | in-Some w ↦
           let tens : c.match-action.tens.0 ≡ 48 + w.in-Some.number / 10 = ap (λ p. p.0) w.tens-is in

@@ -16,21 +16,25 @@ pub returns-then-buffer-list : goal.returns-then-buffer-list
 returns-then-buffer-list g c =
     let m = g.F.Feeder.motion c.args.feeder.now in
     record {
-      written = (traced_too_short m c.args.set c.args.list.now c.args.buffer.now c.in-default.field-0 (sym c.image.ensures.answer ∙ c.in-default.is) (omega arith), refl);
+      written = (traced_too_short m c.args.set c.args.list.now c.args.buffer.now c.in_default.field-0 (sym c.image.ensures.answer ∙ c.in_default.is) (omega arith), refl);
       laws = trace_laws m c.args.set c.args.list.now;
     }
 
-pub write-rows-requires : goal.write-rows-requires
-write-rows-requires g c =
+pub write_rows-requires : goal.write_rows-requires
+write_rows-requires g c =
     let m = g.F.Feeder.motion c.args.feeder.now in
-    let ok = sym c.image.ensures.answer ∙ c.in-default.is in
-    (set_below m c.args.set c.args.list.now c.args.buffer.now c.in-default.field-0 ok, list_below m c.args.set c.args.list.now c.args.buffer.now c.in-default.field-0 ok, omega arith)
+    let ok = sym c.image.ensures.answer ∙ c.in_default.is in
+    record {
+      set_bound = set_below m c.args.set c.args.list.now c.args.buffer.now c.in_default.field-0 ok;
+      list_bound = list_below m c.args.set c.args.list.now c.args.buffer.now c.in_default.field-0 ok;
+      room = omega arith;
+    }
 
 pub returns : goal.returns
 returns g c =
     let m = g.F.Feeder.motion c.args.feeder.now in
-    let ok = sym c.image.ensures.answer ∙ c.in-default.is in
+    let ok = sym c.image.ensures.answer ∙ c.in_default.is in
     record {
-      written = traced_ok m c.args.set c.args.list.now c.args.buffer.now c.in-default.field-0 ok (omega arith) ∙ ap Ok (sym c.write-rows.ensures);
+      written = traced_ok m c.args.set c.args.list.now c.args.buffer.now c.in_default.field-0 ok (omega arith) ∙ ap Ok (sym c.write_rows.ensures);
       laws = trace_laws m c.args.set c.args.list.now;
     }

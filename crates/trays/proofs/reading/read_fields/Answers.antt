@@ -23,16 +23,16 @@ sided : (whole rest : List ℕ) (n m : Read) → limited_at 1 16 whole rest ≡ 
 sided whole rest n m h h₁ =
     field_ok (within 1 16) OutsideLimit whole rest _ n h ∙ field_ok (within 1 16) OutsideLimit whole n.rest _ m h₁
 
-pub returns-in-err-rows : goal.returns-in-err-rows
-returns-in-err-rows c =
-    let p = err_from_is_err_and c.from-residual.result c.from-residual.ensures.1 in
-    rw (p.1, p.2) (rows_refused c.args.sheet.now c.args.fields.now _ c.in-err-rows.ensures.gives)
+pub returns-in_err-rows : goal.returns-in_err-rows
+returns-in_err-rows c =
+    let p = err_from_is_err_and c.from_residual.result c.from_residual.ensures.1 in
+    rw (p.1, p.2) (rows_refused c.args.sheet.now c.args.fields.now _ c.in_err-rows.ensures.gives)
 
-pub returns-in-err-columns : goal.returns-in-err-columns
-returns-in-err-columns c =
-    let p = err_from_is_err_and c.from-residual-in-err-columns.result c.from-residual-in-err-columns.ensures.1 in
-    rw (p.1, p.2) (columns_refused c.args.sheet.now c.args.fields.now _ _ c.in-ok-rows.ensures.gives c.in-err-columns.ensures.gives)
+pub returns-in_err-columns : goal.returns-in_err-columns
+returns-in_err-columns c =
+    let p = err_from_is_err_and c.from_residual-in_err-columns.result c.from_residual-in_err-columns.ensures.1 in
+    rw (p.1, p.2) (columns_refused c.args.sheet.now c.args.fields.now _ _ c.in_ok-rows.ensures.gives c.in_err-columns.ensures.gives)
 
 pub returns : goal.returns
 returns c =
-    gives_like grid_of c.read-cells.result (sided c.args.sheet.now c.args.fields.now _ _ c.in-ok-rows.ensures.gives c.in-ok-columns.ensures.gives) c.read-cells.ensures
+    gives_like grid_of c.read_cells.result (sided c.args.sheet.now c.args.fields.now _ _ c.in_ok-rows.ensures.gives c.in_ok-columns.ensures.gives) c.read_cells.ensures

@@ -7,8 +7,8 @@ use Rattle.gates.specs.Sheet.{gate_fields}
 use Rattle.gates.proofs.Sheets.{one_sheet}
 use Rattle.gates.proofs.row.GateRow.fill.Goals as goal
 
-pub returns-in-default : goal.returns-in-default
-returns-in-default c = record { reads = search rules; format = one_sheet }
+pub returns-in_default : goal.returns-in_default
+returns-in_default c = record { reads = search rules; format = one_sheet }
 
 pub returns-then-kind-ne-KIND : goal.returns-then-kind-ne-KIND
 returns-then-kind-ne-KIND c = record { reads = search rules; format = one_sheet }
@@ -16,4 +16,4 @@ returns-then-kind-ne-KIND c = record { reads = search rules; format = one_sheet 
 pub returns : goal.returns
 returns c =
     let fields = kinded_fields 3 c.args.sheet.now (gate_fields c.args.sheet.now) (search rules) c.if-kind-ne-KIND.false in
-    record { reads = leaves_like gates_of c.args.self.now c.fill-fields.new.self c.fill-fields.result fields c.fill-fields.ensures; format = one_sheet }
+    record { reads = leaves_like gates_of c.args.self.now c.fill_fields.new.self c.fill_fields.result fields c.fill_fields.ensures; format = one_sheet }

@@ -22,31 +22,39 @@ counted : (whole rest : List ℕ) (n k : Read) → limited_at 1 32 whole rest �
 counted whole rest n k h h₁ =
     field_ok (within 1 32) OutsideLimit whole rest _ n h ∙ field_ok (within 1 32) OutsideLimit whole n.rest _ k h₁
 
-pub returns-in-err-poses : goal.returns-in-err-poses
-returns-in-err-poses c =
-    let p = err_from_is_err_and c.from-residual.result c.from-residual.ensures.1 in
-    rw (p.1, p.2) (poses_refused c.args.sheet.now c.args.fields.now _ c.in-err-poses.ensures.gives)
+pub returns-in_err-poses : goal.returns-in_err-poses
+returns-in_err-poses c =
+    let p = err_from_is_err_and c.from_residual.result c.from_residual.ensures.1 in
+    rw (p.1, p.2) (poses_refused c.args.sheet.now c.args.fields.now _ c.in_err-poses.ensures.gives)
 
-pub returns-in-err-actions : goal.returns-in-err-actions
-returns-in-err-actions c =
-    let p = err_from_is_err_and c.from-residual-in-err-actions.result c.from-residual-in-err-actions.ensures.1 in
-    rw (p.1, p.2) (actions_refused c.args.sheet.now c.args.fields.now _ _ c.in-ok-poses.ensures.gives c.in-err-actions.ensures.gives)
+pub returns-in_err-actions : goal.returns-in_err-actions
+returns-in_err-actions c =
+    let p = err_from_is_err_and c.from_residual-in_err-actions.result c.from_residual-in_err-actions.ensures.1 in
+    rw (p.1, p.2) (actions_refused c.args.sheet.now c.args.fields.now _ _ c.in_ok-poses.ensures.gives c.in_err-actions.ensures.gives)
 
-pub returns-in-err-gates : goal.returns-in-err-gates
-returns-in-err-gates c =
-    let p = err_from_is_err_and c.from-residual-in-err-gates.result c.from-residual-in-err-gates.ensures.1 in
-    rw (p.1, p.2) (counted c.args.sheet.now c.args.fields.now _ _ c.in-ok-poses.ensures.gives c.in-ok-actions.ensures.gives ∙ c.in-err-gates.ensures)
+pub returns-in_err-gates : goal.returns-in_err-gates
+returns-in_err-gates c =
+    let p = err_from_is_err_and c.from_residual-in_err-gates.result c.from_residual-in_err-gates.ensures.1 in
+    rw (p.1, p.2) (counted c.args.sheet.now c.args.fields.now _ _ c.in_ok-poses.ensures.gives c.in_ok-actions.ensures.gives ∙ c.in_err-gates.ensures)
 
-pub invariant-of-result : goal.invariant-of-result
-invariant-of-result c =
-    let gs = c.in-ok-gates.gates in
-    let poses = c.in-ok-poses.ensures.inside in
-    let actions = c.in-ok-actions.ensures.inside in
+pub invariant_of-result : goal.invariant_of-result
+invariant_of-result c =
+    let gs = c.in_ok-gates.gates in
+    let poses = c.in_ok-poses.ensures.inside in
+    let actions = c.in_ok-actions.ensures.inside in
     let long : length gs ≡ 32 = search rules in
-    let fit = gates_fit c.args.sheet.now c.in-ok-poses.poses.value c.in-ok-actions.actions.value c.in-ok-actions.actions.rest.now gs (omega (arith, actions.1)) c.in-ok-gates.ensures in
-    (poses.0, (poses.1, (actions.0, (actions.1, (long, ((λ a h. (fit a h).0), ((λ a h. (fit a h).1), tt)))))))
+    let fit = gates_fit c.args.sheet.now c.in_ok-poses.poses.value c.in_ok-actions.actions.value c.in_ok-actions.actions.rest.now gs (omega (arith, actions.1)) c.in_ok-gates.ensures in
+    record {
+      some_pose = poses.0;
+      few_poses = poses.1;
+      some_action = actions.0;
+      few_actions = actions.1;
+      long = long;
+      sets = λ a h. (fit a h).0;
+      turns = λ a h. (fit a h).1;
+    }
 
 pub returns : goal.returns
 returns c =
-    counted c.args.sheet.now c.args.fields.now _ _ c.in-ok-poses.ensures.gives c.in-ok-actions.ensures.gives
-    ∙ c.in-ok-gates.ensures
+    counted c.args.sheet.now c.args.fields.now _ _ c.in_ok-poses.ensures.gives c.in_ok-actions.ensures.gives
+    ∙ c.in_ok-gates.ensures

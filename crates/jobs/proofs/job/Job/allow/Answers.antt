@@ -11,4 +11,4 @@ pub returns : goal.returns
 returns g c =
     let j = c.args.self.now in
     let e = c.reset.ensures in
-    allow_performed (g.F.Feeder.motion j.feeder) (g.F.Feeder.valid j.feeder) j c.reset.new.self c.args.action (subst (λ (k : ℕ). c.args.action < k) c.actions.ensures c.if-action-actions.false) e.feeder (e.allowed ∙ c.with-number-self.ensures) e.poses e.plan
+    allow_performed (g.F.Feeder.motion j.feeder) (g.F.Feeder.valid j.feeder) j c.reset.new.self c.args.action (subst (λ (k : ℕ). c.args.action < k) c.actions.ensures c.if-action-actions.false) e.feeder (e.allowed ∙ c.with_number-self.ensures) e.poses e.plan

@@ -11,4 +11,4 @@ pub returns : goal.returns
 returns g c =
     let j = c.args.self.now in
     let e = c.reset.ensures in
-    bar_performed (g.F.Feeder.motion j.feeder) (g.F.Feeder.valid j.feeder) j c.reset.new.self c.args.action (subst (λ (k : ℕ). c.args.action < k) c.actions.ensures c.if-action-actions.false) e.feeder (e.allowed ∙ c.without-number-self.ensures) e.poses e.plan
+    bar_performed (g.F.Feeder.motion j.feeder) (g.F.Feeder.valid j.feeder) j c.reset.new.self c.args.action (subst (λ (k : ℕ). c.args.action < k) c.actions.ensures c.if-action-actions.false) e.feeder (e.allowed ∙ c.without_number-self.ensures) e.poses e.plan

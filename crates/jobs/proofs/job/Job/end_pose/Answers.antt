@@ -14,5 +14,5 @@ pub returns : goal.returns
 returns g c =
     let j = c.args.self.now in
     let m = g.F.Feeder.motion j.feeder in
-    let is = c.brought.ensures ∙ ap (λ (w : List ℕ). or_none (imaged m j.poses w)) c.as-slice.ensures in
-    ends_in m (g.F.Feeder.valid j.feeder) j c.only-pose.result c.if-not-self.false (subst (λ (s : ℕ). OnlyPose s c.only-pose.result) is c.only-pose.ensures)
+    let is = c.brought.ensures ∙ ap (λ (w : List ℕ). or_none (imaged m j.poses w)) c.as_slice.ensures in
+    ends_in m (g.F.Feeder.valid j.feeder) j c.only_pose.result c.if-not-self.false (subst (λ (s : ℕ). OnlyPose s c.only_pose.result) is c.only_pose.ensures)

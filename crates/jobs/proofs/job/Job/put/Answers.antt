@@ -15,13 +15,13 @@ returns-in-Some g c =
     let j = c.args.self.now in
     put_refused (g.F.Feeder.motion j.feeder) (g.F.Feeder.valid j.feeder) j c.args.list c.in-Some.refusal c.if-list-gt-MOST.false (sym c.in-Some.ensures)
 
-pub returns-in-default-only-pose : goal.returns-in-default-only-pose
-returns-in-default-only-pose g c =
+pub returns-in_default-only_pose : goal.returns-in_default-only_pose
+returns-in_default-only_pose g c =
     let j = c.args.self.now in
-    put_parts (g.F.Feeder.motion j.feeder) (g.F.Feeder.valid j.feeder) j c.args.list c.if-list-gt-MOST.false (sym c.in-default.ensures) (λ o. c.in-default-only-pose.ensures (subst One (sym c.brought.ensures) o))
+    put_parts (g.F.Feeder.motion j.feeder) (g.F.Feeder.valid j.feeder) j c.args.list c.if-list-gt-MOST.false (sym c.in_default.ensures) (λ o. c.in_default-only_pose.ensures (subst One (sym c.brought.ensures) o))
 
 pub returns : goal.returns
 returns g c =
     let j = c.args.self.now in
-    let one = only_one c.brought.result c.in-Some-only-pose.field-0 c.in-Some-only-pose.ensures in
-    put-performed (g.F.Feeder.motion j.feeder) (g.F.Feeder.valid j.feeder) j _ c.args.list c.if-list-gt-MOST.false (sym c.in-default.ensures) (subst One c.brought.ensures one) refl refl refl refl (stored_ok c.args.list.now (list_of c.replace.new.self) c.in-ok-replace.ensures).0
+    let one = only_one c.brought.result c.in-Some-only_pose.field-0 c.in-Some-only_pose.ensures in
+    put-performed (g.F.Feeder.motion j.feeder) (g.F.Feeder.valid j.feeder) j _ c.args.list c.if-list-gt-MOST.false (sym c.in_default.ensures) (subst One c.brought.ensures one) refl refl refl refl (stored_ok c.args.list.now (list_of c.replace.new.self) c.in_ok-replace.ensures).0

@@ -18,8 +18,8 @@ returns g c =
     let r = c.write.result in
     let n = c.poses.ensures in
     let k = c.actions.ensures in
-    let w = c.as-slice.ensures in
-    let same : plan_with c.poses.result c.actions.result e c.as-slice.result.now ≡ plan_with m.poses m.actions e (list_of j.plan) = cc in
+    let w = c.as_slice.ensures in
+    let same : plan_with c.poses.result c.actions.result e c.as_slice.result.now ≡ plan_with m.poses m.actions e (list_of j.plan) = cc in
     plan_recorded m (g.F.Feeder.valid j.feeder) j e c.in-Some.ensures before after r
     (subst (λ (x : Contents). Leaves (λ b. b) (written x before) before after r) same c.write.ensures.leaves)
     (subst (λ (x : Contents). IfOk r (λ n. n ≡ length (spell x))) same c.write.ensures.counts)

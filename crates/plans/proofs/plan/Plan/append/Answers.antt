@@ -8,4 +8,4 @@ returns-then-list-self c =
     (appended_too_long c.args.self.now.actions c.args.self.now.length (search rules) c.args.list.now (search rules), refl)
 
 pub returns : goal.returns
-returns c = appended-fits c.args.self.now.actions c.args.self.now.length (search rules) c.args.list.now c.copy-from-slice.new.self _ c.copy-from-slice.ensures.after (search rules)
+returns c = appended-fits c.args.self.now.actions c.args.self.now.length (search rules) c.args.list.now c.copy_from_slice.new.self _ c.copy_from_slice.ensures.after (search rules)

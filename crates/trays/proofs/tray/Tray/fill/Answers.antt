@@ -13,7 +13,7 @@ returns-in-empty c = record { reads = search rules; format = one_sheet }
 pub returns-in-2 : goal.returns-in-2
 returns-in-2 c =
     let fields = kinded_fields 2 c.args.sheet.now (tray_fields c.args.sheet.now) (search rules) (search rules) in
-    record { reads = leaves_like grid_of c.args.self.now c.fill-fields.new.self c.fill-fields.result fields c.fill-fields.ensures; format = one_sheet }
+    record { reads = leaves_like grid_of c.args.self.now c.fill_fields.new.self c.fill_fields.result fields c.fill_fields.ensures; format = one_sheet }
 
-pub returns-in-default : goal.returns-in-default
-returns-in-default c = record { reads = search rules; format = one_sheet }
+pub returns-in_default : goal.returns-in_default
+returns-in_default c = record { reads = search rules; format = one_sheet }

@@ -5,16 +5,16 @@ use Rattle.trays.proofs.tray.Tray.moved.Goals as goal
 
 pub slide-far-requires : goal.slide-far-requires
 slide-far-requires c =
-    (start_row c.args.self.now c.args.pose _ c.requires c.cell-of-cell.ensures, start_column c.args.self.now c.args.pose _ c.requires c.cell-of-cell.ensures)
+    (start_row c.args.self.now c.args.pose _ c.requires c.cell_of-cell.ensures, start_column c.args.self.now c.args.pose _ c.requires c.cell_of-cell.ensures)
 
-pub cell-ahead-requires : goal.cell-ahead-requires
-cell-ahead-requires c =
-    slide_ends c.args.self.now (tilt_of c.args.direction) c.args.pose _ _ c.requires c.cell-of-cell.ensures c.slide-far.ensures
+pub cell_ahead-requires : goal.cell_ahead-requires
+cell_ahead-requires c =
+    slide_ends c.args.self.now (tilt_of c.args.direction) c.args.pose _ _ c.requires c.cell_of-cell.ensures c.slide-far.ensures
 
-pub pose-at-requires : goal.pose-at-requires
-pose-at-requires c =
-    end_in c.args.self.now (tilt_of c.args.direction) c.args.pose c.cell-of-cell.result c.slide-far.result c.cell-ahead.result c.requires c.cell-of-cell.ensures c.slide-far.ensures c.cell-ahead.ensures
+pub pose_at-requires : goal.pose_at-requires
+pose_at-requires c =
+    end_in c.args.self.now (tilt_of c.args.direction) c.args.pose c.cell_of-cell.result c.slide-far.result c.cell_ahead.result c.requires c.cell_of-cell.ensures c.slide-far.ensures c.cell_ahead.ensures
 
 pub returns : goal.returns
 returns c =
-    move_is c.args.self.now (tilt_of c.args.direction) c.args.pose c.cell-of-cell.result c.slide-far.result c.cell-ahead.result c.pose-at.result c.cell-of-cell.ensures c.slide-far.ensures c.cell-ahead.ensures c.pose-at.ensures
+    move_is c.args.self.now (tilt_of c.args.direction) c.args.pose c.cell_of-cell.result c.slide-far.result c.cell_ahead.result c.pose_at.result c.cell_of-cell.ensures c.slide-far.ensures c.cell_ahead.ensures c.pose_at.ensures
