@@ -66,10 +66,14 @@ found g c =
     c.in-Some.pair.p c.in-Some.pair.q c.in-Some.pair.away c.in-Some.ensures
 
 pub node_of-requires : goal.node_of-requires
-node_of-requires g c = turn_pair (found g (goal.at.node_of-requires g c).In-Some)
+node_of-requires g c =
+    let pair = turn_pair (found g (goal.at.node_of-requires g c).In-Some) in
+    record { p_lt_q = pair.0; q_bound = pair.1 }
 
 pub append_way-requires : goal.append_way-requires
-append_way-requires g c = turn_ready (found g (goal.at.append_way-requires g c).In-Some) c.node_of.result c.node_of.ensures
+append_way-requires g c =
+    let ready = turn_ready (found g (goal.at.append_way-requires g c).In-Some) c.node_of.result c.node_of.ensures in
+    record { passes = ready.0; node_bound = ready.1; reached = ready.2; room = ready.3 }
 
 pub slice_bounds-brought-count : goal.slice_bounds-brought-count
 slice_bounds-brought-count g c =
@@ -81,8 +85,10 @@ slice_bounds-brought-start g c = slice_bounds-brought-count g c
 
 pub brought-here-requires : goal.brought-here-requires
 brought-here-requires g c =
+    let list =
     turn_list (found g (goal.at.brought-here-requires g c).In-Some) c.node_of.result c.node_of.ensures
-    (list_of c.append_way.new.plan) c.as_slice.result.now c.len-before.result c.append_way.ensures c.as_slice.ensures c.len-before.ensures.counts
+    (list_of c.append_way.new.plan) c.as_slice.result.now c.len-before.result c.append_way.ensures c.as_slice.ensures c.len-before.ensures.counts in
+    record { set_bound = list.0; list_bound = list.1 }
 
 pub loop-ground-smaller : goal.loop-ground-smaller
 loop-ground-smaller g c =
