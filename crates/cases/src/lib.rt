@@ -1,5 +1,6 @@
 // Worked cases: small feeders whose answers are written out. Its function only names what is proved of them.
 #![tactic(auto)]
+
 ghost use Rattle.cases.specs.Case.{AllHold};
 ghost use Rattle.cases.specs.Worked.{worked_cases};
 

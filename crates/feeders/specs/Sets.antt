@@ -1,5 +1,5 @@
 -- Sets of poses or of actions as 32-bit numbers: the bit of weight 2 ^ p stands for p.
-use Rattle.std.specs.Prelude.{ℕ, zero, suc, ◌/◌, ◌%◌, ◌^◌, Bool, true, false, List, [], ◌∷◌, ◌==◌, bit_or, nat_lt}
+use Rattle.std.specs.Prelude.{ℕ, ◌/◌, ◌%◌, ◌^◌, Bool, true, false, List, [], ◌∷◌, ◌==◌, bit_or, nat_lt}
 
 -- p belongs to s
 abbrev pub has : ℕ → ℕ → Bool

@@ -1,9 +1,9 @@
 -- A gate row that keeps its rule has one sheet that is accepted.
-use Rattle.std.proofs.Common.{◌≡◌, ℕ, zero, suc, ◌-◌, ◌^◌, ◌<◌, ◌≤◌, ltb, List, [], ◌∷◌, ◌++◌, length, get_or, take, Ok, sym, refl, ap, ◌∙◌, subst, arith, lit<, pow_mono}
+use Rattle.std.proofs.Common.{◌≡◌, ℕ, zero, suc, ◌^◌, ◌<◌, ◌≤◌, ltb, List, [], ◌∷◌, ◌++◌, length, get_or, take, Ok, sym, refl, ap, ◌∙◌, subst, arith, lit<, pow_mono}
 use Rattle.std.proofs.ByRecursion.{All-get_or, All-from_get_or}
 use Rattle.std.proofs.lemmas.List.{append-nil, append_assoc, get_or-take, length-take-le}
 use Rattle.std.proofs.lemmas.Bool.{lt-ltb, ltb-true}
-use Rattle.std.specs.List.{AllByRecursion as All}
+use Rattle.std.specs.List.{AllByRecursion}
 use Rattle.refusals.specs.declared.Refusal.TheVariants.{OutsideLimit}
 use Rattle.numbers.specs.Format.{OneSheet}
 use Rattle.numbers.specs.Number.{spell}
@@ -19,7 +19,7 @@ abbrev pub Fitting : ℕ → Gate → Type 0
 Fitting n g = (g.set < 2 ^ n) × (g.turn < n)
 
 -- the gates of a row are read back
-gates_accepted : (whole : List ℕ) (n : ℕ) (read gs : List Gate) → n ≤ 32 → All (Fitting n) gs → gates_left whole n (length gs) read (spell_gates gs) ≡ Ok (record { poses = n; gates = read ++ gs })
+gates_accepted : (whole : List ℕ) (n : ℕ) (read gs : List Gate) → n ≤ 32 → AllByRecursion (Fitting n) gs → gates_left whole n (length gs) read (spell_gates gs) ≡ Ok (record { poses = n; gates = read ++ gs })
 gates_accepted whole n read [] few fit = ap (λ gs. Ok (record { poses = n; gates = gs })) (sym (append-nil read))
 gates_accepted whole n read (g ∷ gs) few fit =
     let room : 2 ^ n ≤ 2 ^ 32 = pow_mono few in
@@ -36,7 +36,7 @@ gates_accepted whole n read (g ∷ gs) few fit =
 -- the bytes are the spelling of as many gates as are left, and with those read before they make the row
 abbrev Spelled : ℕ → ℕ → List Gate → List ℕ → Gates → Type 0
 Spelled n left read rest t =
-    (gs : List Gate) × (length gs ≡ left) × (rest ≡ spell_gates gs) × All (Fitting n) gs × (t ≡ record { poses = n; gates = read ++ gs })
+    (gs : List Gate) × (length gs ≡ left) × (rest ≡ spell_gates gs) × AllByRecursion (Fitting n) gs × (t ≡ record { poses = n; gates = read ++ gs })
 
 one_more : (n left : ℕ) (read : List Gate) (rest r₁ r₂ : List ℕ) (t : Gates) (g : Gate) → rest ≡ spell g.set ++ r₁ → r₁ ≡ spell g.turn ++ r₂ → Fitting n g → Spelled n left (read ++ (g ∷ [])) r₂ t → Spelled n (suc left) read rest t
 one_more n left read rest r₁ r₂ t g first second fit (gs, counted, after, fits, is) =
@@ -62,13 +62,13 @@ gates_fit whole n k rest gs long h a ha =
     let p = gates_only whole n k [] rest (record { poses = n; gates = take k gs }) h in
     let same : p.0 ≡ take k gs = sym (ap (λ (t : Gates). t.gates) p.4) in
     let in-front : a < length (take k gs) = omega (arith, length-take-le k gs long) in
-    subst (Fitting n) (get_or-take k gs a idle ha) (All-get_or (Fitting n) (take k gs) a idle in-front (subst (All (Fitting n)) same p.3))
+    subst (Fitting n) (get_or-take k gs a idle ha) (All-get_or (Fitting n) (take k gs) a idle in-front (subst (AllByRecursion (Fitting n)) same p.3))
 
 -- what the rule says of each gate
-fitting : (t : Gates) → Keeps t → All (Fitting t.poses) t.gates
+fitting : (t : Gates) → Keeps t → AllByRecursion (Fitting t.poses) t.gates
 fitting t k = All-from_get_or (Fitting t.poses) t.gates idle (λ a h. (k.sets a h, k.turns a h))
 
-keeps : (n : ℕ) (gs : List Gate) → 1 ≤ n → n ≤ 32 → 1 ≤ length gs → length gs ≤ 32 → All (Fitting n) gs → Keeps (record { poses = n; gates = gs })
+keeps : (n : ℕ) (gs : List Gate) → 1 ≤ n → n ≤ 32 → 1 ≤ length gs → length gs ≤ 32 → AllByRecursion (Fitting n) gs → Keeps (record { poses = n; gates = gs })
 keeps n gs some few some_gate few_gates fits = record {
   some_pose = some;
   few_poses = few;

@@ -1,5 +1,6 @@
 // Gate rows: for each action a set of poses and a turn.
 #![tactic(auto)]
+
 mod fields;
 mod gate;
 mod row;

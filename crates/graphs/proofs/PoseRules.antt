@@ -3,7 +3,7 @@ use Rattle.std.proofs.Common.{◌≡◌, ℕ, ◌-◌, ◌<◌, ◌≤◌, T, eq
 use lib.Dec.{eqb_refl}
 use Rattle.feeders.specs.Motion.{Motion, Valid, brings}
 use Rattle.graphs.specs.Graph.{walk}
-use Rattle.graphs.specs.Distance.{AllUsable, Leads, NoDistance, Way}
+use Rattle.graphs.specs.Distance.{AllUsable, Leads}
 use Rattle.graphs.specs.Poses.{pose_graph}
 use Rattle.graphs.specs.Pairs.{pair_graph}
 use Rattle.graphs.specs.PoseLaws.{PoseLaws}

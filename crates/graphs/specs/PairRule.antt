@@ -1,5 +1,5 @@
 -- The pair rule: how a plan is made that brings a set of poses to one.
-use Rattle.std.specs.Prelude.{◌≡◌, ℕ, zero, suc, ◌+◌, ◌-◌, ◌*◌, ◌^◌, ◌<◌, ◌≤◌, cond, T, ◌⊎◌, List, [], ◌++◌, length}
+use Rattle.std.specs.Prelude.{◌≡◌, ℕ, zero, suc, ◌-◌, ◌*◌, ◌^◌, ◌<◌, ◌≤◌, cond, T, ◌⊎◌, List, [], ◌++◌, length}
 use Rattle.feeders.specs.Motion.{Motion}
 use Rattle.feeders.specs.Sets.{has}
 use Rattle.feeders.specs.Image.{image}

@@ -1,5 +1,6 @@
 // The mathematics of grounds: distances, ways, poses, pairs of poses and the pair rule. Its functions only name what is proved.
 #![tactic(auto)]
+
 ghost use Rattle.std.specs.Prelude.{ℕ};
 ghost use Rattle.feeders.specs.Motion.{Motion, Valid};
 ghost use Rattle.graphs.specs.Laws.{DistanceLaws};

@@ -1,5 +1,6 @@
 // Grounds: nodes, labels and goals, and the search for the nearest goal.
 #![tactic(auto)]
+
 mod distances;
 mod ground;
 mod pair_ground;

@@ -10,7 +10,7 @@ use Rattle.graphs.specs.PairRule.{One}
 use Rattle.graphs.specs.Poses.{pose_graph}
 use Rattle.graphs.proofs.Distances.{distance_not-none, way_distance, way_unique}
 use Rattle.graphs.proofs.PairRules.{pair_laws}
-use Rattle.histories.specs.History.{barred, permits, possible, permitted, Permitted}
+use Rattle.histories.specs.History.{permits, possible, permitted, Permitted}
 use Rattle.histories.specs.Rules.{Plans, Answer, without, Bad, absent, forbidden, later, Rule, Held, bar_no_action, bar_done, allow_no_action, allow_done, shake_done, step_no_action, step_barred, step_done, plan_stuck, plan_done, put_too_long, put_bad, put_apart, put_done, add_no_plan, add_no_action, add_barred, add_too_long, add_done, cut_no_plan, cut_no_place, cut_apart, cut_done, aim_no_plan, aim_no_pose, aim_never, aim_too_long, aim_done, start, call}
 use Rattle.histories.specs.Promise.{Determined}
 use Rattle.histories.specs.declared.call.Call.{Call}

@@ -1,25 +1,25 @@
 -- Lists that orient: why each call leaves one where it leaves a plan, and why no list does where a call is refused for good.
-use Rattle.std.proofs.Common.{◌≡◌, ℕ, ◌+◌, ◌-◌, ◌*◌, ◌/◌, ◌^◌, ◌<◌, ◌≤◌, Bool, true, false, cond, T, eqb, ◌⊎◌, ◌↔◌, List, [], ◌∷◌, ◌++◌, length, take, drop, Some, None, sym, refl, ap, ◌∙◌, subst, inl, inr, lt_of_lt_of_le, mul_assoc, mul_comm, arith, eqb→eq, pow_mono}
+use Rattle.std.proofs.Common.{◌≡◌, ℕ, ◌+◌, ◌-◌, ◌*◌, ◌/◌, ◌^◌, ◌<◌, ◌≤◌, T, eqb, List, [], ◌∷◌, ◌++◌, length, take, drop, Some, None, sym, refl, ap, ◌∙◌, subst, inl, inr, lt_of_lt_of_le, mul_assoc, mul_comm, arith, eqb→eq, pow_mono}
 use Rattle.std.proofs.lemmas.Bool.{cases_Bool, cond-true, cond-false}
 use Rattle.std.proofs.lemmas.List.{take-append-drop}
 use Rattle.feeders.specs.Motion.{Motion, Valid, brings}
 use Rattle.feeders.specs.Sets.{has, all_below}
 use Rattle.feeders.specs.Image.{image}
-use Rattle.feeders.proofs.Sets.{T_of_true, true_of_T, T-has_one, has-below, sets_ext_T}
+use Rattle.feeders.proofs.Sets.{T_of_true, T-has_one, has-below, sets_ext_T}
 use Rattle.feeders.proofs.Images.{has-image, image-below, image-append, brings-append, brings_stays}
-use Rattle.graphs.specs.Distance.{AllUsable, NoDistance, Way}
-use Rattle.graphs.specs.Pairs.{pair_graph, start}
+use Rattle.graphs.specs.Distance.{NoDistance, Way}
+use Rattle.graphs.specs.Pairs.{start}
 use Rattle.graphs.specs.PairRule.{One, PairRule, Stuck, every, size_of}
 use Rattle.graphs.specs.Poses.{pose_graph}
 use Rattle.graphs.proofs.Numbering.{start_double}
 use Rattle.graphs.proofs.PairRules.{pair_laws}
 use Rattle.graphs.proofs.PoseRules.{pose_laws}
 use Rattle.graphs.proofs.Sizes.{has-every, image-size, image_some, one_bit, size_one, image_member}
-use Rattle.histories.specs.History.{barred, permits, steps, possible, permitted, Permitted, Orients, EndsAt}
+use Rattle.histories.specs.History.{permits, steps, possible, permitted, Permitted, Orients, EndsAt}
 use Rattle.histories.specs.Rules.{Plans, advanced, without}
 use Rattle.histories.specs.declared.call.Call.{Call}
-use Rattle.histories.specs.declared.call.Call.TheVariants.{Bar, Allow, Shake, Step, Plan, Put, Add, Cut, Aim}
-use Rattle.histories.proofs.Words.{permits_known, usable_permitted, permitted_usable, permitted_known, permitted-append, permitted_parts, permitted_all_like, steps-permitted, steps_known, possible-below, possible_step}
+use Rattle.histories.specs.declared.call.Call.TheVariants.{Step}
+use Rattle.histories.proofs.Words.{usable_permitted, permitted_usable, permitted_known, permitted-append, permitted_parts, permitted_all_like, steps-permitted, steps_known, possible-below, possible_step}
 
 -- ---- plans
 

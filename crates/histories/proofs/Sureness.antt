@@ -1,17 +1,17 @@
 -- The guarantee, from the rules alone.
-use Rattle.std.proofs.Common.{◌≡◌, ℕ, ◌+◌, ◌-◌, ◌*◌, ◌/◌, ◌^◌, ◌<◌, ◌≤◌, true, false, T, ◌↔◌, List, [], ◌∷◌, ◌++◌, length, Some, None, Ok, Err, Option, sym, refl, ap, ◌∙◌, subst, arith, length-append}
+use Rattle.std.proofs.Common.{◌≡◌, ℕ, ◌+◌, ◌-◌, ◌*◌, ◌/◌, ◌<◌, ◌≤◌, true, false, T, ◌↔◌, List, [], ◌∷◌, ◌++◌, length, Some, None, Ok, Err, Option, sym, refl, ap, ◌∙◌, subst, arith, length-append}
 use Rattle.refusals.specs.declared.Refusal.{Refusal}
 use Rattle.refusals.specs.declared.Refusal.TheVariants.{NoPose, NoPlan, PlanTooLong, CannotOrient, CannotEndThere}
 use Rattle.feeders.specs.Motion.{Motion, Valid}
 use Rattle.feeders.specs.Image.{image}
 use Rattle.graphs.specs.PairRule.{One, size_of}
-use Rattle.histories.specs.History.{barred, permits, steps, possible, permitted, Permitted, Orients, EndsAt}
+use Rattle.histories.specs.History.{barred, permits, possible, permitted, Orients, EndsAt}
 use Rattle.histories.specs.Rules.{Plans, Answer, length_of, advanced, without, Rule, Held, bar_no_action, bar_done, allow_no_action, allow_done, shake_done, step_no_action, step_barred, step_done, plan_stuck, plan_done, put_too_long, put_bad, put_apart, put_done, add_no_plan, add_no_action, add_barred, add_too_long, add_done, cut_no_plan, cut_no_place, cut_apart, cut_done, aim_no_plan, aim_no_pose, aim_never, aim_too_long, aim_done, start, call}
-use Rattle.histories.specs.Promise.{Sure, RulesAreSure}
+use Rattle.histories.specs.Promise.{RulesAreSure}
 use Rattle.histories.specs.declared.call.Call.{Call}
-use Rattle.histories.specs.declared.call.Call.TheVariants.{Bar, Allow, Shake, Step, Plan, Put, Add, Cut, Aim}
+use Rattle.histories.specs.declared.call.Call.TheVariants.{Bar, Allow, Step, Plan, Put, Add, Cut, Aim}
 use Rattle.histories.proofs.Words.{permits_known, permits-free, permitted_all_like, permitted_same, elsewhere, possible_still, possible_elsewhere}
-use Rattle.histories.proofs.Orienting.{none_some, same_some, advanced_was, bit_of_one, one_of_bit, orients_more, orients_step, permitted-without, planned_orients, stuck_orients_none, planned_short, end_below, way_ends, way_short, never_ends}
+use Rattle.histories.proofs.Orienting.{none_some, same_some, advanced_was, one_of_bit, orients_more, orients_step, permitted-without, planned_orients, stuck_orients_none, planned_short, way_ends, way_short, never_ends}
 
 -- ---- answers
 

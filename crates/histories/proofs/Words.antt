@@ -1,10 +1,10 @@
 -- What the words of the guarantee come to: permitted actions as a set, and the possible poses after each call.
-use Rattle.std.proofs.Common.{◌≡◌, ℕ, zero, suc, ◌^◌, ◌<◌, ◌≤◌, Bool, true, false, cond, not, ◌&&◌, T, eqb, ltb, ◌⊎◌, ◌↔◌, List, [], ◌∷◌, ◌++◌, sym, refl, ap, ◌∙◌, subst, inl, inr, le_trans, lt_of_lt_of_le, arith, ltb→lt, lt→ltb}
+use Rattle.std.proofs.Common.{◌≡◌, ℕ, zero, suc, ◌^◌, ◌<◌, ◌≤◌, Bool, true, false, cond, not, ◌&&◌, T, eqb, ltb, ◌↔◌, List, [], ◌∷◌, ◌++◌, sym, refl, ap, ◌∙◌, subst, inl, inr, arith, ltb→lt, lt→ltb}
 use Rattle.std.proofs.lemmas.Bool.{cases_Bool, cases_lt, cond_both, cond-true, cond-false, ne_eqb, lt-ltb, le-ltb}
 use Rattle.feeders.specs.Motion.{Motion, Valid}
 use Rattle.feeders.specs.Sets.{has, with, all_below}
 use Rattle.feeders.specs.Image.{image}
-use Rattle.feeders.proofs.Sets.{T_of_true, true_of_T, not-T_of_false, T-has-with, not-has-zero, has-below, below-has, sets_ext_T, all_below_cons}
+use Rattle.feeders.proofs.Sets.{T_of_true, true_of_T, not-T_of_false, T-has-with, not-has-zero, below-has, sets_ext_T, all_below_cons}
 use Rattle.feeders.proofs.Images.{image-below, image-empty, image-append}
 use Rattle.graphs.specs.Distance.{AllUsable}
 use Rattle.graphs.specs.Pairs.{pair_graph}

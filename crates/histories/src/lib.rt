@@ -1,5 +1,6 @@
 // The calls of a job, what they mean by the calls made before them, and the guarantee. Its functions only name what is proved.
 #![tactic(auto)]
+
 ghost use Rattle.histories.specs.Promise.{Determined, RulesAreSure};
 
 mod call;

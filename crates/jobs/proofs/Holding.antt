@@ -1,12 +1,11 @@
 -- The same for the calls that make, take and change the plan.
-use Rattle.std.proofs.Common.{◌≡◌, ℕ, ◌+◌, ◌^◌, ◌<◌, ◌≤◌, Bool, true, false, cond, T, ltb, leb, ◌⊎◌, List, [], ◌∷◌, ◌++◌, length, take, drop, Some, None, Ok, Err, Option, Result, sym, refl, ap, ◌∙◌, subst, inl, inr, arith, length-append, Bor}
+use Rattle.std.proofs.Common.{◌≡◌, ℕ, ◌+◌, ◌^◌, ◌<◌, ◌≤◌, true, false, T, ltb, leb, ◌⊎◌, List, [], ◌∷◌, ◌++◌, length, Some, None, Ok, Err, Option, Result, sym, refl, ap, ◌∙◌, subst, inl, inr, arith, length-append, Bor}
 use Rattle.std.proofs.lemmas.Bool.{cases_Bool, cases_lt, cond-true, cond-false, lt-ltb, le-ltb, le-leb, lt-leb}
 use Rattle.refusals.specs.declared.Refusal.{Refusal}
 use Rattle.refusals.specs.declared.Refusal.TheVariants.{NoPose, NoAction, Barred, NoPlan, NoPlace, PlanTooLong, Apart, CannotOrient, CannotEndThere}
 use Rattle.feeders.specs.Motion.{Motion, Valid}
-use Rattle.feeders.specs.Sets.{has, all_below}
+use Rattle.feeders.specs.Sets.{has}
 use Rattle.feeders.specs.Image.{image, imaged}
-use Rattle.feeders.proofs.Sets.{T_of_true}
 use Rattle.graphs.specs.Distance.{NoDistance, Way}
 use Rattle.graphs.specs.PairRule.{One, PairRule, Stuck, size_of}
 use Rattle.graphs.specs.Poses.{pose_graph}
@@ -17,11 +16,11 @@ use Rattle.plans.specs.Held.{list_of}
 use Rattle.plans.proofs.Fitting.{length-list_of_le}
 use Rattle.planning.specs.Planned.{Refused}
 use Rattle.planning.specs.Aimed.{AimRefused, no_pose, never, too_long}
-use Rattle.histories.specs.History.{barred, permits, possible, permitted, Permitted, Orients}
-use Rattle.histories.specs.Rules.{Plans, Answer, without, Bad, absent, forbidden, later, Rule, Held, plan_stuck, plan_done, put_too_long, put_bad, put_apart, put_done, add_no_plan, add_no_action, add_barred, add_too_long, add_done, cut_no_plan, cut_no_place, cut_apart, cut_done, aim_no_plan, aim_no_pose, aim_never, aim_too_long, aim_done}
+use Rattle.histories.specs.History.{possible, permitted, Permitted}
+use Rattle.histories.specs.Rules.{Plans, without, Bad, absent, forbidden, later, Rule, plan_stuck, plan_done, put_too_long, put_bad, put_apart, put_done, add_no_plan, add_no_action, add_barred, add_too_long, add_done, cut_no_plan, cut_no_place, cut_apart, cut_done, aim_no_plan, aim_no_pose, aim_never, aim_too_long, aim_done}
 use Rattle.histories.specs.declared.call.Call.{Call}
 use Rattle.histories.specs.declared.call.Call.TheVariants.{Plan, Put, Add, Cut, Aim}
-use Rattle.histories.proofs.Words.{permitted_same, permitted_known, has-permitted, possible-below, possible_some}
+use Rattle.histories.proofs.Words.{permitted_same, permitted_known, has-permitted, possible_some}
 use Rattle.histories.proofs.Orienting.{none_some, same_some, end_below, permitted-without}
 use Rattle.histories.proofs.Sureness.{held_orients}
 use Rattle.jobs.specs.Sets.{OnlyPose}

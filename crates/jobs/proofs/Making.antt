@@ -1,5 +1,5 @@
 -- From what a method of a job has checked and changed to what the call does by the rules.
-use Rattle.std.proofs.Common.{◌≡◌, ℕ, ◌+◌, ◌-◌, ◌^◌, ◌<◌, ◌≤◌, Bool, true, false, cond, T, eqb, ◌⊎◌, ◌↔◌, List, [], ◌∷◌, ◌++◌, length, Some, None, Ok, Err, Option, Result, sym, refl, ap, ◌∙◌, subst, inl, inr, arith, eqb→eq}
+use Rattle.std.proofs.Common.{◌≡◌, ℕ, ◌-◌, ◌^◌, ◌<◌, ◌≤◌, Bool, true, false, cond, T, eqb, ◌⊎◌, List, [], ◌∷◌, None, Ok, Err, Option, sym, refl, ap, ◌∙◌, subst, inl, inr, eqb→eq}
 use Rattle.std.proofs.lemmas.Bool.{cases_Bool, cond-true, cond-false, eq-eqb, ne_eqb}
 use Rattle.refusals.specs.declared.Refusal.{Refusal}
 use Rattle.refusals.specs.declared.Refusal.TheVariants.{NoAction, Barred}
@@ -8,19 +8,19 @@ use Rattle.feeders.specs.Sets.{has, with}
 use Rattle.feeders.specs.Image.{image}
 use Rattle.feeders.proofs.Sets.{T_of_true, T-has-with, sets_ext_T}
 use Rattle.graphs.specs.PairRule.{every}
-use Rattle.graphs.proofs.Sizes.{every-below, has-every}
+use Rattle.graphs.proofs.Sizes.{has-every}
 use Rattle.histories.specs.History.{barred, permits, possible, permitted}
-use Rattle.histories.specs.Rules.{Plans, Answer, length_of, advanced, Rule, Held, bar_no_action, bar_done, allow_no_action, allow_done, shake_done, step_no_action, step_barred, step_done, start, call}
+use Rattle.histories.specs.Rules.{Plans, Answer, length_of, advanced, Rule, bar_no_action, bar_done, allow_no_action, allow_done, shake_done, step_no_action, step_barred, step_done, start, call}
 use Rattle.histories.specs.Promise.{Sure}
 use Rattle.histories.specs.declared.call.Call.{Call}
 use Rattle.histories.specs.declared.call.Call.TheVariants.{Bar, Allow, Shake, Step}
-use Rattle.histories.proofs.Words.{permits_known, permits-free, permits_from, has-permitted, permitted_same, set_below-below, possible-below, possible_step, possible_reset, possible-every}
+use Rattle.histories.proofs.Words.{permits_known, permits-free, permits_from, has-permitted, permitted_same, possible-below, possible_step, possible_reset, possible-every}
 use Rattle.histories.proofs.Sureness.{rules_are_sure}
 use Rattle.jobs.specs.Sets.{less}
 use Rattle.jobs.specs.Checks.{checked}
-use Rattle.jobs.specs.Reach.{plan_of, Reached, Leads, Performs}
+use Rattle.jobs.specs.Reach.{plan_of, Reached, Performs}
 use Rattle.jobs.specs.declared.job.Job.{Job}
-use Rattle.jobs.proofs.Checking.{T-has-less, checked_ok, checked_err}
+use Rattle.jobs.proofs.Checking.{T-has-less, checked_err}
 
 -- ---- the permitted actions after a bar and after an allow
 

@@ -1,5 +1,5 @@
 -- What is written of the plan that a job holds: its record and its trace.
-use Rattle.std.proofs.Common.{◌≡◌, ℕ, ◌+◌, ◌*◌, ◌^◌, ◌<◌, ◌≤◌, Bool, true, false, cond, T, ltb, leb, List, ◌++◌, length, take, drop, IfOk, Some, Ok, Err, Result, sym, refl, ap, ◌∙◌, subst, inl, inr, arith}
+use Rattle.std.proofs.Common.{◌≡◌, ℕ, ◌+◌, ◌*◌, ◌^◌, ◌≤◌, Bool, true, false, cond, ltb, leb, List, ◌++◌, length, take, drop, IfOk, Some, Ok, Err, Result, sym, refl, ap, ◌∙◌, subst, inl, inr, arith}
 use Rattle.std.proofs.lemmas.Bool.{cases_lt, lt-ltb, leb-true}
 use Rattle.refusals.specs.Outcomes.{Leaves}
 use Rattle.refusals.specs.declared.Refusal.{Refusal}
@@ -19,7 +19,6 @@ use Rattle.records.proofs.Limits.{fits_from_limits}
 use Rattle.records.proofs.Writes.{length-spell, written_there, written_no_room}
 use Rattle.traces.specs.Trace.{trace_of, traced}
 use Rattle.traces.proofs.Outcomes.{traced_ok, traced_too_short}
-use Rattle.histories.specs.History.{possible}
 use Rattle.histories.specs.Rules.{Plans}
 use Rattle.histories.specs.declared.call.Call.{Call}
 use Rattle.histories.proofs.Words.{permitted_known}

@@ -1,5 +1,6 @@
 // The job: a feeder, the permitted actions, the possible poses and perhaps a plan; and the calls that are made on it.
 #![tactic(auto)]
+
 mod calls;
 mod checks;
 mod job;

@@ -1,5 +1,6 @@
 // What layers make of a feeder: a tray of three free cells in a row, under a series, renumbered, and in two piles.
 #![tactic(auto)]
+
 ghost use Rattle.std.specs.Prelude.{◌≡◌, true, [], ◌∷◌, MatchResult};
 ghost use Rattle.layers.specs.Held.{series_of};
 ghost use Rattle.layers.specs.Numbered.{numbering_of, Filled};

@@ -1,5 +1,6 @@
 // Layers: feeders over any feeder.
 #![tactic(auto)]
+
 mod moves;
 mod numbering;
 mod renumbering;

@@ -6,7 +6,7 @@ use Rattle.refusals.specs.Numbers.{number_of}
 use Rattle.refusals.specs.declared.Reader.{Reader}
 use Rattle.refusals.specs.declared.Reader.TheVariants.{Number, Sheet}
 use Rattle.refusals.specs.declared.Fault.{Fault}
-use Rattle.numbers.specs.Number.{Read, number_at}
+use Rattle.numbers.specs.Number.{number_at}
 
 -- the place of the first byte of rest
 abbrev pub place : List ℕ → List ℕ → ℕ

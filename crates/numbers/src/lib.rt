@@ -1,5 +1,6 @@
 // Numbers in bytes: seven bits a group, lowest first, in the shortest form.
 #![tactic(auto)]
+
 ghost use Rattle.std.specs.Prelude.{◌≡◌};
 ghost use Rattle.numbers.specs.Answers.{Answers};
 ghost use Rattle.numbers.specs.Field.{read_of};

@@ -1,5 +1,6 @@
 // The program: reads the feeder's sheet, and plans from all its poses with all its actions.
 #![tactic(auto)]
+
 ghost use Rattle.std.specs.Prelude.{◌≤◌, length, IfOk};
 
 use planning::plan_every;

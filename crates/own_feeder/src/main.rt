@@ -1,5 +1,6 @@
 // How a customer writes a feeder: say what it does (specs/), keep its rule in the struct, show the trait; all else comes with it.
 #![tactic(auto)]
+
 ghost use Rattle.own_feeder.specs.Dial.{dial_motion, dial_valid};
 
 use dial::Dial;

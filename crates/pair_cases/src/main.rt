@@ -1,5 +1,6 @@
 // The planner on random small feeders, beside a search over sets of poses that knows nothing of pairs.
 #![tactic(auto)]
+
 ghost use Rattle.pair_cases.specs.Dice.{dice_motion, dice_valid};
 
 use dice::Dice;

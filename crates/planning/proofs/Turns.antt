@@ -3,7 +3,7 @@ use Rattle.std.proofs.Common.{◌≡◌, ℕ, ◌+◌, ◌-◌, ◌/◌, ◌^◌
 use Rattle.std.proofs.lemmas.List.{drop_at, take_rest}
 use Rattle.std.proofs.lemmas.Bool.{ltb-true, ltb-false, eq-eqb, ne_eqb}
 use Rattle.feeders.specs.Motion.{Motion, Valid}
-use Rattle.feeders.specs.Sets.{has, all_below}
+use Rattle.feeders.specs.Sets.{all_below}
 use Rattle.feeders.specs.Image.{image}
 use Rattle.feeders.proofs.Sets.{has-below, eqb-shr-zero}
 use Rattle.graphs.specs.Distance.{Way}

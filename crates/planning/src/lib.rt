@@ -1,5 +1,6 @@
 // The pair rule: plans that bring a set of poses to one; and the way from one pose to another.
 #![tactic(auto)]
+
 mod aim;
 mod every;
 mod nearest;

@@ -1,5 +1,6 @@
 // The player: reads the feeder's sheet and a script, serves the script's lines on one job, and prints the answers as it goes.
 #![tactic(auto)]
+
 ghost use Rattle.std.specs.Prelude.{◌≡◌, ◌≤◌, length, IfOk};
 ghost use Rattle.histories.specs.Rules.{Plans};
 ghost use Rattle.jobs.specs.Reach.{Reached};

@@ -1,5 +1,6 @@
 // Writes plans as records, reads them back and prints both; then records at the ends of each limit, good and refused.
 #![tactic(auto)]
+
 ghost use Rattle.std.specs.Prelude.{◌≡◌};
 ghost use Rattle.records.specs.Contents.{plan_with};
 ghost use Rattle.records.specs.Held.{contents_of};

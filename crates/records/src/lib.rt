@@ -1,5 +1,6 @@
 // Plan records: one record for each plan.
 #![tactic(auto)]
+
 mod reading;
 mod writing;
 

@@ -1,5 +1,6 @@
 // Scripts: their lines, the requests that the lines make, and the lines that are printed.
 #![tactic(auto)]
+
 mod answer;
 mod lines;
 mod read;

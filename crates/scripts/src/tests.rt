@@ -42,12 +42,12 @@ fn other_lines_make_none(rt: HostRuntime) -> Result<(), Fail> {
 #[test]
 fn lines_end_at_lf(rt: HostRuntime) -> Result<(), Fail> {
     let (first, more) = next_line(b"P\n\nB 1").ok_or("no line")?;
-    assert!(rt; first == b"P");
+    assert!(rt; first == b"P".as_slice());
     let (second, last) = next_line(more).ok_or("no line")?;
     assert!(rt; second.is_empty());
-    assert!(rt; last == b"B 1");
+    assert!(rt; last == b"B 1".as_slice());
     let (third, nothing) = next_line(last).ok_or("no line")?;
-    assert!(rt; third == b"B 1");
+    assert!(rt; third == b"B 1".as_slice());
     assert!(rt; nothing.is_empty());
     assert!(rt; next_line(nothing).is_none());
     Ok(())
@@ -56,15 +56,15 @@ fn lines_end_at_lf(rt: HostRuntime) -> Result<(), Fail> {
 #[test]
 fn answers_are_lines(rt: HostRuntime) -> Result<(), Fail> {
     let planned = answer_line(rt.alloc(), Some(Request::Plan), None, Some(4))?;
-    assert!(rt; planned == "P 00 4\n");
+    assert!(rt; planned.as_str() == "P 00 4\n");
     let stuck = answer_line(
         rt.alloc(),
         Some(Request::Plan),
         Some(Refusal::CannotOrient),
         None,
     )?;
-    assert!(rt; stuck == "P 08 -\n");
+    assert!(rt; stuck.as_str() == "P 08 -\n");
     let other = answer_line(rt.alloc(), None, None, None)?;
-    assert!(rt; other == "? 13 -\n");
+    assert!(rt; other.as_str() == "? 13 -\n");
     Ok(())
 }

@@ -5,8 +5,7 @@ use Rattle.scripts.specs.declared.request.Request.{Request}
 use Rattle.scripts.specs.declared.request.Request.TheVariants.{Bar, Allow, Shake, Step, Plan, Add, Cut, Aim, Trace}
 use Rattle.histories.specs.Rules.{Plans, Answer, length_of}
 use Rattle.histories.specs.declared.call.Call.{Call}
-use Rattle.histories.specs.declared.call.Call.TheVariants as call
-use Rattle.jobs.specs.Reach.{Reached, Performs}
+use Rattle.jobs.specs.Reach.{Reached}
 use Rattle.jobs.specs.declared.job.Job.{Job}
 use Rattle.sessions.specs.Served.{Served, Makes, Replies}
 use Rattle.sessions.specs.declared.reply.Reply.{Reply}

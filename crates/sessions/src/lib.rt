@@ -1,5 +1,6 @@
 // A script's lines, served one by one on a job.
 #![tactic(auto)]
+
 mod reply;
 mod service;
 

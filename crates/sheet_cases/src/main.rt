@@ -1,5 +1,6 @@
 // Many sheets, good and refused: prints for each what comes of it.
 #![tactic(auto)]
+
 use feeders::Feeder;
 use scripts::fault_line;
 use std::io;

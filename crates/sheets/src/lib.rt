@@ -1,5 +1,6 @@
 // Sheets of any kind: the kind byte chooses the reader of the fields.
 #![tactic(auto)]
+
 ghost use Rattle.gates.specs.Sheet.{gate_fields};
 ghost use Rattle.numbers.specs.Format.{OneSheet};
 ghost use Rattle.refusals.specs.Outcomes.{Gives};

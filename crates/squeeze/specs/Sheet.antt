@@ -1,5 +1,5 @@
 -- The sheet of a squeeze table: 1, the ticks T, the number of steps m, the number of turns k, then m times begin and rest, then k turns.
-use Rattle.std.specs.Prelude.{ℕ, zero, suc, ◌+◌, ◌<◌, Bool, true, false, cond, List, [], ◌∷◌, ◌++◌, length, Result, ◌==◌, nat_le, nat_lt}
+use Rattle.std.specs.Prelude.{ℕ, zero, suc, ◌+◌, Bool, true, false, cond, List, [], ◌∷◌, ◌++◌, length, Result, ◌==◌, nat_le, nat_lt}
 use Rattle.refusals.specs.declared.Fault.{Fault}
 use Rattle.refusals.specs.declared.Refusal.TheVariants.{OutsideLimit, OutOfOrder}
 use Rattle.numbers.specs.Number.{spell}

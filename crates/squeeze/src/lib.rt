@@ -1,5 +1,6 @@
 // Squeeze tables: two jaws close on the part, which turns to the rest of the step that its angle lies in.
 #![tactic(auto)]
+
 mod filling;
 mod motion;
 mod reading;

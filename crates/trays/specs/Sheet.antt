@@ -1,5 +1,5 @@
 -- The sheet of a tray: 2, the rows, the columns, then one byte for each cell, row by row: 2E (a dot) is free, 23 (a hash) is wall.
-use Rattle.std.specs.Prelude.{ℕ, zero, suc, ◌*◌, Bool, true, false, cond, List, [], ◌∷◌, ◌++◌, length, Result, ◌==◌, nat_le, nat_lt}
+use Rattle.std.specs.Prelude.{ℕ, zero, suc, ◌*◌, Bool, true, false, cond, List, [], ◌∷◌, ◌++◌, Result, ◌==◌, nat_le, nat_lt}
 use Rattle.refusals.specs.declared.Fault.{Fault}
 use Rattle.refusals.specs.declared.Refusal.TheVariants.{OutsideLimit}
 use Rattle.numbers.specs.Number.{spell}

@@ -1,5 +1,6 @@
 // Tilting trays: the part slides to the last free cell before a wall or the rim.
 #![tactic(auto)]
+
 mod direction;
 mod feeding;
 mod filling;

@@ -5,17 +5,17 @@ use Rattle.sessions.specs.Served.{after_lines, history_of}
 use Rattle.scripts.specs.Split.{lines_of}
 use Rattle.play.proofs.play.Goals as goal
 
-pub shape-of-rows-in_err-answer_line : goal.shape-of-rows-in_err-answer_line
-shape-of-rows-in_err-answer_line g c = c.serve-reply.auto.buffer ∙ c.loop-line.invariant.0
+pub shape_of-rows-in_err-answer_line : goal.shape_of-rows-in_err-answer_line
+shape_of-rows-in_err-answer_line g c = c.serve-reply.auto.buffer ∙ c.loop-line.invariant.0
 
-pub shape-of-rows-in_err-print : goal.shape-of-rows-in_err-print
-shape-of-rows-in_err-print g c = c.serve-reply.auto.buffer ∙ c.loop-line.invariant.0
+pub shape_of-rows-in_err-print : goal.shape_of-rows-in_err-print
+shape_of-rows-in_err-print g c = c.serve-reply.auto.buffer ∙ c.loop-line.invariant.0
 
-pub shape-of-rows-in_err-write_all : goal.shape-of-rows-in_err-write_all
-shape-of-rows-in_err-write_all g c = c.serve-reply.auto.buffer ∙ c.loop-line.invariant.0
+pub shape_of-rows-in_err-write_all : goal.shape_of-rows-in_err-write_all
+shape_of-rows-in_err-write_all g c = c.serve-reply.auto.buffer ∙ c.loop-line.invariant.0
 
-pub shape-of-rows : goal.shape-of-rows
-shape-of-rows g c = c.loop-line.invariant.0
+pub shape_of-rows : goal.shape_of-rows
+shape_of-rows g c = c.loop-line.invariant.0
 
 none_left : (xs : List ℕ) → length xs ≡ 0 → xs ≡ []
 none_left [] e = refl

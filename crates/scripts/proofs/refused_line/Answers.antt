@@ -1,5 +1,5 @@
 -- The two digits come from two holes of the format, each of one digit.
-use Rattle.std.proofs.Common.{◌≡◌, ◌+◌, ◌/◌, ◌%◌, ◌<◌, [], ◌∷◌, decimal, append_assoc, arith, rules}
+use Rattle.std.proofs.Common.{◌≡◌, ◌+◌, ◌/◌, ◌%◌, [], ◌∷◌, decimal, append_assoc, arith, rules}
 use Rattle.std.proofs.lemmas.Fmt.{decimal_digit}
 use Rattle.refusals.proofs.Range.{number_of_le}
 use Rattle.refusals.specs.Numbers.{number_of}

@@ -1,4 +1,4 @@
-use Rattle.std.proofs.Common.{◌≡◌, ◌<◌, ◌≤◌, min, List, [], reverse, length, get_or, None, sym, refl, ◌∙◌, subst, arith}
+use Rattle.std.proofs.Common.{◌≡◌, ◌<◌, min, List, [], reverse, length, get_or, None, sym, refl, ◌∙◌, subst, arith}
 use Rattle.histories.specs.declared.call.Call.{Call}
 use Rattle.histories.specs.declared.call.Call.TheVariants.{Bar}
 use Rattle.histories.proofs.Deciding.{determined}

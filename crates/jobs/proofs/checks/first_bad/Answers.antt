@@ -1,5 +1,5 @@
 -- Each turn judges the first action of the rest.
-use Rattle.std.proofs.Common.{◌≡◌, ℕ, ◌+◌, get_or, drop, Ok, Err, sym, ap, ◌∙◌}
+use Rattle.std.proofs.Common.{◌≡◌, ◌+◌, get_or, drop, Ok, Err, sym, ap, ◌∙◌}
 use Rattle.std.proofs.lemmas.List.{at_drop_more, at_drop_all}
 use Rattle.jobs.specs.Checks.{checked, first_bad}
 use Rattle.jobs.proofs.Checking.{first_bad_here, first_bad_later}

@@ -1,4 +1,4 @@
-use Rattle.std.proofs.Common.{◌≡◌, ℕ, ◌≤◌, length, Option, sym, subst, zero-le}
+use Rattle.std.proofs.Common.{ℕ, ◌≤◌, length, Option, sym, subst, zero-le}
 use Rattle.scripts.specs.declared.request.Request.{Request}
 use Rattle.sessions.specs.Served.{Served}
 use Rattle.sessions.proofs.Serving.{makes_same, call_served}

@@ -1,8 +1,7 @@
 -- Each way out of the reader is that of squeeze_fields; what is read keeps the rule, since nothing else is accepted.
-use Rattle.std.proofs.Common.{◌≡◌, ℕ, ◌≤◌, length, take, Ok, sym, ◌∙◌, arith, rules}
+use Rattle.std.proofs.Common.{◌≡◌, ℕ, ◌≤◌, length, take, Ok, ◌∙◌, rules}
 use Rattle.std.proofs.lemmas.Result.{err_from_is_err_and}
-use Rattle.numbers.specs.Number.{Read}
-use Rattle.squeeze.specs.Sheet.{steps_left, squeeze_fields}
+use Rattle.squeeze.specs.Sheet.{squeeze_fields}
 use Rattle.squeeze.specs.Squeeze.{Keeps}
 use Rattle.squeeze.proofs.Made as made
 use Rattle.squeeze.proofs.Readings.{ticks_err, steps_err, turns_err, heads_ok}

@@ -1,5 +1,5 @@
 -- One step more is read, or the fault of the one that is refused is that of them all.
-use Rattle.std.proofs.Common.{◌≡◌, ◌<◌, length, ◌∙◌, arith}
+use Rattle.std.proofs.Common.{◌<◌, length, ◌∙◌, arith}
 use Rattle.std.proofs.lemmas.List.{length-set}
 use Rattle.std.proofs.lemmas.Result.{err_from_is_err_and}
 use Rattle.squeeze.proofs.Readings.{steps_turn, steps_refused}

@@ -1,5 +1,5 @@
 -- The turns still to come, after those read, give what all of them give.
-use Rattle.std.proofs.Common.{◌≡◌, ℕ, ◌-◌, List, [], length, take}
+use Rattle.std.proofs.Common.{◌≡◌, ◌-◌, List, [], length, take}
 use Rattle.squeeze.specs.declared.step.Step.{Step}
 use Rattle.squeeze.specs.Sheet.{turns_left}
 use Rattle.squeeze.proofs.reading.read_turns.Given as goal

@@ -1,4 +1,4 @@
-use Rattle.std.proofs.Common.{◌≡◌, ℕ, List, length, take, IfOk, Ok, subst}
+use Rattle.std.proofs.Common.{◌≡◌, length, take, IfOk, Ok, subst}
 use Rattle.refusals.specs.Outcomes.{Leaves}
 use Rattle.plans.specs.Held.{list_of}
 use Rattle.records.specs.Contents.{Contents, plan_with}
