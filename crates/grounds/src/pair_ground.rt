@@ -1,5 +1,5 @@
 // The ground of two parts: the pairs of a feeder's poses, and one node for two that have met, which is the goal.
-ghost use Rattle.std.specs.Prelude.{◌≡◌, ◌<◌, ◌&&◌, ltb, if◌then◌else◌, Ok, Err, nat_lt};
+ghost use Rattle.std.specs.Prelude.{◌≡◌, ◌<◌, ◌&&◌, if◌then◌else◌, Ok, Err, nat_lt};
 ghost use Rattle.refusals.specs.declared.Refusal.TheVariants.{NoPose};
 ghost use Rattle.graphs.specs.Pairs.{node_of, pair_graph};
 ghost use Rattle.grounds.specs.Sound.{pair_sound};
@@ -24,7 +24,7 @@ impl<'a, F: Feeder> PairGround<'a, F> {
 
     // The node of two poses, in any order; refuses an absent one.
     pub fn pair_node(&self, p: u32, q: u32) -> Result<u32, Refusal>
-        ensures { result ≡ (if ltb p (F.Feeder.motion self.now.feeder.now).poses && nat_lt q (F.Feeder.motion self.now.feeder.now).poses then Ok (node_of (F.Feeder.motion self.now.feeder.now).poses p q) else Err NoPose) }
+        ensures { result ≡ (if nat_lt p (F.Feeder.motion self.now.feeder.now).poses && nat_lt q (F.Feeder.motion self.now.feeder.now).poses then Ok (node_of (F.Feeder.motion self.now.feeder.now).poses p q) else Err NoPose) }
     {
         let n = self.feeder.poses();
         if p >= n || q >= n {

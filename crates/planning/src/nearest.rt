@@ -23,7 +23,7 @@ pub(crate) fn nearest<F: Feeder>(
     n: u32,
     set: u32,
 ) -> Option<Pair>
-    requires every_pose { n ≡ (F.Feeder.motion ground.now.feeder.now).poses }
+    requires pose_count { n ≡ (F.Feeder.motion ground.now.feeder.now).poses }
     requires small { Small n distances.now.nodes distances.now.table }
     requires set_bound { set < 2 ^ n }
     ensures { Scanned distances.now.table set n 0 result }
@@ -46,7 +46,7 @@ fn nearest_with<F: Feeder>(
     p: u32,
     before: Option<Pair>,
 ) -> Option<Pair>
-    requires every_pose { n ≡ (F.Feeder.motion ground.now.feeder.now).poses }
+    requires pose_count { n ≡ (F.Feeder.motion ground.now.feeder.now).poses }
     requires small { Small n distances.now.nodes distances.now.table }
     requires set_bound { set < 2 ^ n }
     requires p_lt_n { p < n }

@@ -1,6 +1,6 @@
 -- What comes of any bytes as a plan record: fields are tested as they are read, each before the next is looked at.
 -- Places count bytes from 0, so bytes that end early end at the place that is their length.
-use Rattle.std.specs.Prelude.{ℕ, ◌+◌, Bool, cond, ltb, List, [], ◌∷◌, ◌++◌, length, Ok, Err, Result, ◌==◌, nat_lt}
+use Rattle.std.specs.Prelude.{ℕ, ◌+◌, Bool, cond, List, [], ◌∷◌, ◌++◌, length, Ok, Err, Result, ◌==◌, nat_lt}
 use Rattle.refusals.specs.declared.Fault.{Fault}
 use Rattle.refusals.specs.declared.Reader.TheVariants.{Record}
 use Rattle.refusals.specs.declared.Refusal.{Refusal}
@@ -38,7 +38,7 @@ abbrev pub fields_at : List ℕ → Result Contents Fault
 fields_at rest =
     and_then (field_at (within 1 32) 1 rest) (λ n.
     and_then (field_at (within 1 32) 2 n.rest) (λ k.
-    and_then (field_at (λ p. ltb p n.value) 3 k.rest) (λ e.
+    and_then (field_at (λ p. nat_lt p n.value) 3 k.rest) (λ e.
     and_then (list_at k.value [] e.rest) (λ list.
     Ok (plan_with n.value k.value e.value list)))))
 
