@@ -1,14 +1,20 @@
 -- Where lists of actions bring poses, and the laws of image.
-use Rattle.std.proofs.Common.{◌≡◌, ℕ, zero, suc, ◌+◌, ◌^◌, ◌<◌, ◌≤◌, true, false, cond, T, ltb, ◌↔◌, List, [], ◌∷◌, ◌++◌, length, get_or, take, Ok, Err, sym, refl, ap, ◌∙◌, subst, inl, inr, le_refl, add-one, arith}
+use Rattle.std.proofs.Common.{◌≡◌, ℕ, zero, suc, ◌+◌, ◌^◌, ◌<◌, ◌≤◌, true, false, cond, T, ltb, ◌↔◌, List, [], ◌∷◌, ◌++◌, length, get_or, take, Ok, Err, sym, refl, ap, ◌∙◌, subst, inl, inr, le_refl, add-one, arith, rules}
 use Rattle.std.proofs.lemmas.Nat.{pow_pos}
 use Rattle.std.proofs.lemmas.List.{take_more}
 use Rattle.std.proofs.lemmas.Bool.{cases_Bool, cases_lt, cond_both, cond-true, cond-false}
 use Rattle.refusals.specs.declared.Refusal.TheVariants.{NoPose, NoAction}
-use Rattle.feeders.specs.Motion.{Motion, Valid, brings}
+use Rattle.feeders.specs.Motion.{Motion, Valid, brings, follows}
 use Rattle.feeders.specs.Sets.{has, with, all_below}
 use Rattle.feeders.specs.Image.{gathered, image, imaged}
 use Rattle.feeders.specs.Laws.{ImageLaws}
 use Rattle.feeders.proofs.Sets.{T_of_true, not-T_of_false, T-has-with, not-has-zero, has-below, with-below, sets_ext_T, all_below_cons}
+
+-- ---- one action
+
+-- a pose and an action that the feeder has are not refused
+pub follows_ok : (m : Motion) (p a : ℕ) → p < m.poses → a < m.actions → follows m p a ≡ Ok (m.next p a)
+follows_ok m p a hp ha = search rules
 
 -- ---- lists of actions
 

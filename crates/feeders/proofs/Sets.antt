@@ -1,7 +1,8 @@
 -- What belongs to a set that is written as a number, and when two such sets are equal.
-use Rattle.std.proofs.Common.{◌≡◌, ℕ, zero, suc, ◌+◌, ◌-◌, ◌*◌, ◌/◌, ◌%◌, ◌^◌, ◌<◌, ◌≤◌, Bool, true, false, ◌||◌, T, eqb, ltb, ◌⊎◌, ◌↔◌, List, [], ◌∷◌, ◌++◌, length, get_or, sym, refl, ap, ◌∙◌, subst, ap₂, inl, inr, lt_of_lt_of_le, mod-lt, one-mul, pow-suc, div-one, one-add, arith, eqb→eq, ltb→lt, lt→ltb, pow_mono}
+use Rattle.std.proofs.Common.{◌≡◌, ℕ, zero, suc, ◌+◌, ◌-◌, ◌*◌, ◌/◌, ◌%◌, ◌^◌, ◌<◌, ◌≤◌, Bool, true, false, ◌||◌, T, eqb, ltb, leb, nat_lt, ◌&&◌, rules, ◌⊎◌, ◌↔◌, List, [], ◌∷◌, ◌++◌, length, get_or, sym, refl, ap, ◌∙◌, subst, ap₂, inl, inr, lt_of_lt_of_le, mod-lt, one-mul, pow-suc, div-one, one-add, arith, eqb→eq, ltb→lt, lt→ltb, pow_mono}
 use native.Mathlib.Nat.{div-eq_of_lt, mul-mod_left}
 use lib.Bits.{bit_or}
+use Rattle.std.specs.List.{list_all}
 use Rattle.std.proofs.lemmas.Nat.{pow_pos, pow-add, pow_below, shl-shr, shr-shr, or_shr, or_mod, or_lt, div-add-mod', le-div}
 use Rattle.std.proofs.lemmas.Bool.{cases_lt, cases_order, eq-eqb, ne_eqb, lt-ltb, le-ltb}
 use Rattle.feeders.specs.Sets.{has, with, all_below}
@@ -206,3 +207,19 @@ pub all_below_mono : (j k : ℕ) (w : List ℕ) → j ≤ k → T (all_below j w
 all_below_mono j k [] h t = tt
 all_below_mono j k (a ∷ w) h t =
     let c = (all_below_cons j a w).0 t in (all_below_cons k a w).1 (omega (arith, c.0), all_below_mono j k w h c.1)
+
+and_by : (b c : Bool) → (b && c) ≡ elim b [ true ↦ c | false ↦ false ]
+and_by true c = refl
+and_by false c = refl
+
+-- the library's way to say that all entries are below k
+pub list_all_below : (k : ℕ) (w : List ℕ) → list_all (λ a. nat_lt a k) w ≡ all_below k w
+list_all_below k [] = refl
+list_all_below k (a ∷ w) = ap (λ (b : Bool). nat_lt a k && b) (list_all_below k w) ∙ and_by (nat_lt a k) (all_below k w)
+
+-- a number is not above the greatest below 2 ^ n exactly when it is below 2 ^ n
+pub leb-every : (s n : ℕ) → leb s (2 ^ n - 1) ≡ ltb s (2 ^ n)
+leb-every s n = elim (cases_lt s (2 ^ n)) [
+  | inl l ↦ search (rules)
+  | inr g ↦ let p = pow_pos n in search (rules)
+]

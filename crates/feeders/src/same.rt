@@ -1,8 +1,7 @@
 // Whether two feeders, or two lists, are the same.
-ghost use Rattle.std.specs.Prelude.{◌≡◌, ℕ, ◌<◌, T, ◌↔◌};
+ghost use Rattle.std.specs.Prelude.{◌≡◌, ℕ, ◌<◌, ◌↔◌, T};
 ghost use Rattle.feeders.specs.Motion.{Same};
 
-use crate::carry::pose_after;
 use crate::feeder::Feeder;
 
 // Whether the feeders have the same poses, the same actions and the same moves.
@@ -13,12 +12,7 @@ pub fn same_feeder<F: Feeder, G: Feeder>(first: &F, second: &G) -> bool
     if second.poses() != poses || second.actions() != first.actions() {
         return false;
     }
-    for pose in 0..poses {
-        if !same_moves(first, second, pose) {
-            return false;
-        }
-    }
-    true
+    (0..poses).all(|pose| same_moves(first, second, pose))
 }
 
 // Whether every action leads from `pose` to the same pose, in feeders with the same poses and actions.
@@ -28,25 +22,12 @@ fn same_moves<F: Feeder, G: Feeder>(first: &F, second: &G, pose: u32) -> bool
     requires same_actions { (F.Feeder.motion first.now).actions ≡ (G.Feeder.motion second.now).actions }
     ensures { T result ↔ ((a : ℕ) → a < (F.Feeder.motion first.now).actions → (F.Feeder.motion first.now).next pose a ≡ (G.Feeder.motion second.now).next pose a) }
 {
-    for action in 0..first.actions() {
-        if pose_after(first, pose, action) != pose_after(second, pose, action) {
-            return false;
-        }
-    }
-    true
+    (0..first.actions()).all(|action| first.follow(pose, action) == second.follow(pose, action))
 }
 
 // Whether the lists are the same, entry by entry; an entry that is no action counts too.
 pub fn same_list(first: &[u8], second: &[u8]) -> bool
     ensures { T result ↔ (first.now ≡ second.now) }
 {
-    if first.len() != second.len() {
-        return false;
-    }
-    for i in 0..first.len() {
-        if first[i] != second[i] {
-            return false;
-        }
-    }
-    true
+    first == second
 }

@@ -43,7 +43,7 @@ fn show(rt: &HostRuntime, dial: &Dial, every: u32, list: &[u8]) -> io::Result<()
     match image(dial, every, list) {
         Ok(set) => println!(rt; "{list:?} brings {every:04b} to {set:04b}"),
         Err(refusal) => {
-            let number = refusal.number();
+            let number = u8::from(refusal);
             println!(rt; "{list:?} is refused by {number}")
         }
     }

@@ -255,7 +255,7 @@ fn show_plan(rt: &HostRuntime, dice: &Dice, set: u32) -> io::Result<()> {
             println!(rt; "")
         }
         Err(refusal) => {
-            let number = refusal.number();
+            let number = u8::from(refusal);
             println!(rt; "refused by {number}")
         }
     }
@@ -280,7 +280,7 @@ fn show_image(rt: &HostRuntime, dice: &Dice, set: u32, list: &[u8]) -> io::Resul
     match image(dice, set, list) {
         Ok(end) => println!(rt; "{list:?} brings {set:04b} to {end:04b}"),
         Err(refusal) => {
-            let number = refusal.number();
+            let number = u8::from(refusal);
             println!(rt; "{list:?} is refused by {number}")
         }
     }

@@ -54,7 +54,7 @@ fn show(rt: &HostRuntime, bytes: &[u8]) -> io::Result<()> {
 }
 
 fn print_refusal(rt: &HostRuntime, refusal: Refusal) -> io::Result<()> {
-    let number = refusal.number();
+    let number = u8::from(refusal);
     println!(rt; "refused with {number}")
 }
 

@@ -1,8 +1,12 @@
 // The numbered refusals that every call of the planner may answer, and the fault of a refused sheet or record.
 #![tactic(auto)]
 
-ghost use Rattle.std.specs.Prelude.{◌≡◌};
+ghost use Rattle.std.specs.Prelude.{◌≡◌, Some};
 ghost use Rattle.refusals.specs.Numbers.{number_of};
+ghost use Rattle.refusals.specs.Printed.{fault_text, two_digits};
+
+use std::error::Error;
+use std::fmt;
 
 // Why a call was refused. The discriminant is the number that users see (docs/REFUSALS.md).
 #[derive(Clone, Copy, PartialEq, Eq, Debug)]
@@ -25,14 +29,26 @@ pub enum Refusal {
     BufferTooShort = 16,
 }
 
-impl Refusal {
-    // The number that users see.
-    pub fn number(self) -> u8
-        ensures { result ≡ number_of self }
-    {
-        self as u8
+// The number that users see.
+impl From<Refusal> for u8 {
+    ghost from_gives = { λ refusal number. number ≡ number_of refusal };
+
+    fn from(refusal: Refusal) -> u8 {
+        refusal as u8
     }
 }
+
+// Printed as its number, in two digits.
+impl fmt::Display for Refusal {
+    ghost output = { λ refusal. Some (two_digits (number_of refusal)) };
+
+    fn fmt<W: fmt::Write>(&self, f: &mut fmt::Formatter<W>) -> fmt::Result {
+        let number = u8::from(*self);
+        write!(f, "{number:02}")
+    }
+}
+
+impl Error for Refusal {}
 
 // Which reader stopped: at a number's form, at a sheet, or at a plan record.
 #[derive(Clone, Copy, PartialEq, Eq, Debug)]
@@ -49,3 +65,14 @@ pub struct Fault {
     pub place: usize,
     pub reader: Reader,
 }
+
+// Printed as the refusal and the place.
+impl fmt::Display for Fault {
+    ghost output = { λ fault. Some (fault_text fault) };
+
+    fn fmt<W: fmt::Write>(&self, f: &mut fmt::Formatter<W>) -> fmt::Result {
+        write!(f, "{} {}", self.refusal, self.place)
+    }
+}
+
+impl Error for Fault {}

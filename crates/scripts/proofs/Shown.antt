@@ -1,8 +1,7 @@
 -- The fields of an answer: letters are ASCII, and numbers have at most two digits.
-use Rattle.std.proofs.Common.{◌≡◌, ℕ, ◌+◌, ◌/◌, ◌%◌, ◌<◌, ◌≤◌, [], ◌∷◌, Some, None, decimal, Option, arith}
+use Rattle.std.proofs.Common.{◌≡◌, ◌<◌, ◌≤◌, [], ◌∷◌, Some, None, Option, arith}
 use lib.Utf8.{encode}
 use Rattle.std.proofs.lemmas.Str.Ascii.{encode_ascii}
-use Rattle.std.proofs.lemmas.Fmt.{decimal_digit}
 use Rattle.refusals.proofs.Range.{number_of_le}
 use Rattle.refusals.specs.declared.Refusal.{Refusal}
 use Rattle.refusals.specs.declared.Refusal.TheVariants.{OutsideLimit}
@@ -10,11 +9,6 @@ use Rattle.scripts.specs.Lines.{shown_letter, shown_number}
 use Rattle.scripts.specs.Requests.{letter_of}
 use Rattle.scripts.specs.declared.request.Request.{Request}
 use Rattle.scripts.specs.declared.request.Request.TheVariants.{Bar, Allow, Shake, Step, Plan, Add, Cut, Aim, Trace}
-
--- ---- two digits
-
-pub decimal_two : (n : ℕ) → n ≤ 16 → (decimal (n / 10) ≡ (48 + n / 10) ∷ []) × (decimal (n % 10) ≡ (48 + n % 10) ∷ [])
-decimal_two n small = (decimal_digit (n / 10) (omega arith), decimal_digit (n % 10) (omega arith))
 
 -- ---- the fields
 

@@ -1,15 +1,12 @@
 -- The lines that the program prints, as bytes.
-use Rattle.std.specs.Prelude.{ℕ, ◌+◌, ◌/◌, ◌%◌, List, [], ◌∷◌, ◌++◌, Some, None, Ok, Err, codes, decimal, Option, Result}
+use Rattle.std.specs.Prelude.{ℕ, List, ◌∷◌, ◌++◌, Some, None, Ok, Err, codes, decimal, Option, Result}
 use Rattle.refusals.specs.Numbers.{number_of}
+use Rattle.refusals.specs.Printed.{two_digits}
 use Rattle.refusals.specs.declared.Fault.{Fault}
 use Rattle.refusals.specs.declared.Refusal.{Refusal}
 use Rattle.refusals.specs.declared.Refusal.TheVariants.{OutsideLimit}
 use Rattle.scripts.specs.Requests.{letter_of}
 use Rattle.scripts.specs.declared.request.Request.{Request}
-
--- a number below 100 in two decimal digits; 48 is the digit 0
-abbrev pub two_digits : ℕ → List ℕ
-two_digits n = (48 + n / 10) ∷ ((48 + n % 10) ∷ [])
 
 -- The line of a refused sheet: `!`, the refusal's number in two digits, the place in decimal, with a blank between, and LF.
 -- The refusal "value outside its limit" at place 2 is `! 13 2`.

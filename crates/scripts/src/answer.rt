@@ -1,6 +1,6 @@
 // The lines that answer requests.
 ghost use Rattle.std.specs.Prelude.{◌≡◌, IfOk, string_bytes};
-ghost use Rattle.scripts.specs.Lines.{answer_line, shown_letter, shown_number};
+ghost use Rattle.scripts.specs.Lines.{answer_line, shown_number};
 
 use crate::request::Request;
 use refusals::Refusal;
@@ -15,23 +15,11 @@ pub fn answer_line(
 ) -> Result<String, AllocError>
     ensures { IfOk result (λ line. string_bytes line ≡ answer_line request refusal plan) }
 {
-    let letter = shown_letter(request);
+    let letter = request.map_or('?', Request::letter);
     let number = shown_number(request, refusal);
-    let tens = number / 10;
-    let units = number % 10;
     match plan {
-        Some(length) => format!(in heap; "{letter} {tens}{units} {length}\n"),
-        None => format!(in heap; "{letter} {tens}{units} -\n"),
-    }
-}
-
-// The letter of the answer.
-fn shown_letter(request: Option<Request>) -> char
-    ensures { result ≡ shown_letter request }
-{
-    match request {
-        Some(asked) => asked.letter(),
-        None => '?',
+        Some(length) => format!(in heap; "{letter} {number:02} {length}\n"),
+        None => format!(in heap; "{letter} {number:02} -\n"),
     }
 }
 
@@ -40,8 +28,8 @@ fn shown_number(request: Option<Request>, refusal: Option<Refusal>) -> u8
     ensures { result ≡ shown_number request refusal }
 {
     match (request, refusal) {
-        (None, _) => Refusal::OutsideLimit.number(),
+        (None, _) => Refusal::OutsideLimit.into(),
         (Some(_), None) => 0,
-        (Some(_), Some(why)) => why.number(),
+        (Some(_), Some(why)) => why.into(),
     }
 }

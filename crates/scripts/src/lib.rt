@@ -6,7 +6,7 @@ mod lines;
 mod read;
 mod request;
 
-ghost use Rattle.std.specs.Prelude.{◌≡◌, IfOk, Err, string_bytes};
+ghost use Rattle.std.specs.Prelude.{◌≡◌, IfOk, string_bytes};
 ghost use Rattle.scripts.specs.Lines.{action_line, fault_line, plan_line};
 
 pub use answer::answer_line;
@@ -20,11 +20,7 @@ use std::alloc::{AllocError, Global};
 pub fn fault_line(heap: Global, fault: Fault) -> Result<String, AllocError>
     ensures { IfOk result (λ line. string_bytes line ≡ fault_line fault) }
 {
-    let number = fault.refusal.number();
-    let tens = number / 10;
-    let units = number % 10;
-    let place = fault.place;
-    format!(in heap; "! {tens}{units} {place}\n")
+    format!(in heap; "! {fault}\n")
 }
 
 // The line of the planner's answer: the plan's length, or the refusal.
@@ -33,18 +29,8 @@ pub fn plan_line(heap: Global, outcome: Result<usize, Refusal>) -> Result<String
 {
     match outcome {
         Ok(length) => format!(in heap; "P 00 {length}\n"),
-        Err(refusal) => refused_line(heap, refusal),
+        Err(refusal) => format!(in heap; "P {refusal} -\n"),
     }
-}
-
-// The planner's line for a refusal.
-fn refused_line(heap: Global, refusal: Refusal) -> Result<String, AllocError>
-    ensures { IfOk result (λ line. string_bytes line ≡ plan_line (Err refusal)) }
-{
-    let number = refusal.number();
-    let tens = number / 10;
-    let units = number % 10;
-    format!(in heap; "P {tens}{units} -\n")
 }
 
 // The line of one action of a plan.

@@ -14,7 +14,7 @@ pub fn next_line(rest: &[u8]) -> Option<(&[u8], &[u8])>
     if end == rest.len() {
         return Some((rest, &[]));
     }
-    Some((&rest[0..end], &rest[end + 1..]))
+    Some((&rest[..end], &rest[end + 1..]))
 }
 
 // The place of the first LF, or the length where there is none.
@@ -23,10 +23,7 @@ fn line_end(rest: &[u8]) -> usize
     ensures before { (k : ℕ) → k < result → slice_index rest.now k ≢ 10 }
     ensures found { result < length rest.now → slice_index rest.now result ≡ 10 }
 {
-    for (place, byte) in rest.iter().enumerate() {
-        if *byte == b'\n' {
-            return place;
-        }
-    }
-    rest.len()
+    rest.iter()
+        .position(|byte| *byte == b'\n')
+        .unwrap_or(rest.len())
 }

@@ -10,10 +10,10 @@ pub fn read_request(line: &[u8]) -> Option<Request>
     ensures law { OneMeaning }
 {
     match line {
-        [letter] => request_by(*letter as char, None),
+        [letter] => request_by(char::from(*letter), None),
         [letter, b' ', digits @ ..] => {
             let number = number_of(digits)?;
-            request_by(*letter as char, Some(number))
+            request_by(char::from(*letter), Some(number))
         }
         _ => None,
     }

@@ -3,8 +3,8 @@ use Rattle.std.proofs.Common.{rules}
 use Rattle.feeders.proofs.Images.{image_laws}
 use Rattle.feeders.proofs.carry.image.Goals as goal
 
-pub returns-then-not-within : goal.returns-then-not-within
-returns-then-not-within g c =
+pub returns-then-not-is_within : goal.returns-then-not-is_within
+returns-then-not-is_within g c =
     let f = c.args.feeder.now in
     record { answer = search rules; laws = image_laws (g.F.Feeder.motion f) (g.F.Feeder.valid f) }
 

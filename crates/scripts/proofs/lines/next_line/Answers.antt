@@ -1,6 +1,5 @@
 -- The line ends at its LF, or with the bytes.
 use Rattle.std.proofs.Common.{◌<◌, length, rules}
-use native.Mathlib.Nat.{sub-zero}
 use Rattle.std.proofs.lemmas.List.{take_rest}
 use Rattle.scripts.proofs.Breaks.{first_ended, first_only}
 use Rattle.scripts.proofs.lines.next_line.Goals as goal
@@ -19,5 +18,5 @@ returns c =
     let short : end < length rest = search rules in
     record {
       some = search rules;
-      first = rw (sub-zero, take_rest) (first_ended rest end c.line_end-end.ensures.within c.line_end-end.ensures.before short (c.line_end-end.ensures.found short));
+      first = rw take_rest (first_ended rest end c.line_end-end.ensures.within c.line_end-end.ensures.before short (c.line_end-end.ensures.found short));
     }
