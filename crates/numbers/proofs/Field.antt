@@ -1,11 +1,13 @@
 -- A number field of a sheet: what follows it, or its fault.
-use Rattle.std.proofs.Common.{◌≡◌, ℕ, ◌^◌, ◌<◌, Bool, true, false, ltb, List, ◌++◌, Ok, Err, Result, refl, ap, ◌∙◌, subst, arith}
+use Rattle.std.proofs.Common.{◌≡◌, ℕ, ◌^◌, ◌<◌, Bool, true, false, cond, eqb, ltb, List, [], ◌∷◌, ◌++◌, Ok, Err, Result, sym, refl, ap, ◌∙◌, subst, arith}
 use Rattle.refusals.specs.declared.Refusal.{Refusal}
 use Rattle.refusals.specs.declared.Refusal.TheVariants.{NoPose, NoAction, Barred, NoPlan, NoPlace, PlanTooLong, Apart, CannotOrient, CannotEndThere, EndsEarly, BadNumber, WrongKind, OutsideLimit, OutOfOrder, LeftOver, BufferTooShort}
 use Rattle.refusals.specs.declared.Fault.{Fault}
 use Rattle.numbers.specs.Number.{Read, number_at, spell}
-use Rattle.numbers.specs.Field.{field_at, and_then}
-use Rattle.numbers.specs.Grammar.{number, number_fault, tested, within}
+use Rattle.numbers.specs.Field.{field_at, and_then, number_in, byte_at, whole_of, rest_of, Takes, OfKind}
+use Rattle.numbers.specs.declared.fields.Fields.{Fields}
+use Rattle.refusals.specs.declared.Reader.TheVariants.{Sheet}
+use Rattle.numbers.specs.Grammar.{number, byte, fault_at, number_fault, tested, kinded, within}
 use Rattle.numbers.proofs.Spelling.{number_at-spell, number_at_only}
 
 -- the field, from what was read
@@ -74,3 +76,55 @@ number_fault_refusal whole rest OutsideLimit = refl
 number_fault_refusal whole rest OutOfOrder = refl
 number_fault_refusal whole rest LeftOver = refl
 number_fault_refusal whole rest BufferTooShort = refl
+
+-- The same for a number with no test, and for one byte.
+pub number_then : {X : Type 0} (whole rest : List ℕ) (go : Read → Result X Fault) → number whole rest (λ v after. go (record { value = v; rest = after })) ≡ and_then (number_in whole rest) go
+number_then {X} whole rest go = by (number_at rest)
+  where
+    by : (r : Result Read Refusal) → field whole rest (λ v after. go (record { value = v; rest = after })) r ≡ and_then (field whole rest (λ v after. Ok (record { value = v; rest = after })) r) go
+    by (Ok n) = refl
+    by (Err f) = refl
+
+pub byte_then : {X : Type 0} (whole rest : List ℕ) (go : Read → Result X Fault) → byte whole rest (λ b after. go (record { value = b; rest = after })) ≡ and_then (byte_at whole rest) go
+byte_then whole [] go = refl
+byte_then whole (b ∷ rest) go = refl
+
+-- What a reader took from the front of a sheet's fields: what follows it goes on from the fields after it, or has its fault.
+-- `whole` is the sheet, whatever was taken before.
+pub takes_then : {X : Type 0} (reader : List ℕ → List ℕ → Result Read Fault) (whole : List ℕ) (before after : Fields) (r : Result ℕ Fault) (go : Read → Result X Fault) → whole_of before ≡ whole → Takes reader before after r → and_then (reader whole (rest_of before)) go ≡ and_then r (λ v. go (record { value = v; rest = rest_of after }))
+takes_then reader whole before after (Ok v) go is h =
+    ap (λ (w : List ℕ). and_then (reader w (rest_of before)) go) (sym is) ∙ ap (λ (r : Result Read Fault). and_then r go) h.0
+takes_then reader whole before after (Err e) go is h =
+    ap (λ (w : List ℕ). and_then (reader w (rest_of before)) go) (sym is) ∙ ap (λ (r : Result Read Fault). and_then r go) h.0
+
+-- so for a number that passes a test, for a number with no test, and for one byte
+pub field_takes : {X : Type 0} (test : ℕ → Bool) (e : Refusal) (whole : List ℕ) (before after : Fields) (r : Result ℕ Fault) (go : ℕ → List ℕ → Result X Fault) → whole_of before ≡ whole → Takes (field_at test e) before after r → number whole (rest_of before) (λ v rest. tested (test v) e whole (rest_of before) (go v rest)) ≡ and_then r (λ v. go v (rest_of after))
+field_takes test e whole before after r go is h =
+    field_then test e whole (rest_of before) (λ q. go q.value q.rest) ∙ takes_then (field_at test e) whole before after r (λ q. go q.value q.rest) is h
+
+pub number_takes : {X : Type 0} (whole : List ℕ) (before after : Fields) (r : Result ℕ Fault) (go : ℕ → List ℕ → Result X Fault) → whole_of before ≡ whole → Takes number_in before after r → number whole (rest_of before) go ≡ and_then r (λ v. go v (rest_of after))
+number_takes whole before after r go is h =
+    number_then whole (rest_of before) (λ q. go q.value q.rest) ∙ takes_then number_in whole before after r (λ q. go q.value q.rest) is h
+
+pub byte_takes : {X : Type 0} (whole : List ℕ) (before after : Fields) (r : Result ℕ Fault) (go : ℕ → List ℕ → Result X Fault) → whole_of before ≡ whole → Takes byte_at before after r → byte whole (rest_of before) go ≡ and_then r (λ b. go b (rest_of after))
+byte_takes whole before after r go is h =
+    byte_then whole (rest_of before) (λ q. go q.value q.rest) ∙ takes_then byte_at whole before after r (λ q. go q.value q.rest) is h
+
+-- the end that code has, in a wider type, is that of the format
+pub takes_below : (end n : ℕ) (before after : Fields) (r : Result ℕ Fault) → end ≡ n → Takes (below_at end) before after r → Takes (below_at n) before after r
+takes_below end n before after r is h = subst (λ (m : ℕ). Takes (below_at m) before after r) is h
+
+-- A sheet of one kind is what its fields are, and another has the fault.
+kinded_then : {X : Type 0} (k : ℕ) (sheet : List ℕ) (go : List ℕ → Result X Fault) → kinded k sheet go ≡ and_then (kinded k sheet (λ rest. Ok rest)) go
+kinded_then k [] go = refl
+kinded_then {X} k (b ∷ rest) go = by (eqb b k)
+  where
+    by : (is : Bool) → cond is (go rest) (Err (fault_at WrongKind Sheet (b ∷ rest) (b ∷ rest))) ≡ and_then (cond is (Ok rest) (Err (fault_at WrongKind Sheet (b ∷ rest) (b ∷ rest)))) go
+    by true = refl
+    by false = refl
+
+pub kind_takes : {X : Type 0} (k : ℕ) (sheet : List ℕ) (r : Result Fields Fault) (go : List ℕ → List ℕ → Result X Fault) → OfKind k sheet r → kinded k sheet (go sheet) ≡ and_then r (λ f. go (whole_of f) (rest_of f))
+kind_takes k sheet (Ok f) go h =
+    kinded_then k sheet (go sheet) ∙ ap (λ (r : Result (List ℕ) Fault). and_then r (go sheet)) h.0
+    ∙ ap (λ (w : List ℕ). go w (rest_of f)) (sym h.1)
+kind_takes k sheet (Err e) go h = kinded_then k sheet (go sheet) ∙ ap (λ (r : Result (List ℕ) Fault). and_then r (go sheet)) h

@@ -1,54 +1,118 @@
 // Fields of a sheet: the sheet reader's faults at their places, and numbers within limits.
 // `whole` is the sheet, and `rest` is the end of it that starts at the field.
-ghost use Rattle.std.specs.Prelude.{◌≡◌, ◌<◌, ◌≤◌, IfOk, nat_lt};
-ghost use Rattle.numbers.specs.Field.{field_at, read_of};
-ghost use Rattle.numbers.specs.Grammar.{cut_short, fault_at, within};
-ghost use Rattle.refusals.specs.Outcomes.{Gives};
+ghost use Rattle.std.specs.Prelude.{◌≡◌, ◌<◌, ◌≤◌, IfOk, IsTrue, nat_lt};
+ghost use Rattle.numbers.specs.Field.{OfKind, Takes, byte_at, field_at, number_in, read_of, rest_of, whole_of};
+ghost use Rattle.numbers.specs.Grammar.{cut_short, ended, fault_at, tested, within};
 ghost use Rattle.refusals.specs.declared.Reader.TheVariants.{Sheet};
 ghost use Rattle.refusals.specs.declared.Refusal.TheVariants.{OutsideLimit};
 
 use crate::{Number, read_in};
 use refusals::{Fault, Reader, Refusal};
 
-// A fault of a sheet: the place is the first byte of the field.
-pub fn fault_at(refusal: Refusal, whole: &[u8], rest: &[u8]) -> Fault
-    ensures { result ≡ fault_at refusal Sheet whole.now rest.now }
-{
-    Fault {
-        refusal,
-        place: whole.len().saturating_sub(rest.len()),
-        reader: Reader::Sheet,
+// A sheet as it is read: all of it, and the end that is not read yet.
+#[derive(Clone, Copy)]
+pub struct Fields<'a> {
+    whole: &'a [u8],
+    rest: &'a [u8],
+}
+
+impl<'a> Fields<'a> {
+    // The fields of `rest`, which is the end of `whole`. The places of faults are counted in `whole`.
+    pub fn new(whole: &'a [u8], rest: &'a [u8]) -> Fields<'a>
+        ensures whole { whole_of result ≡ whole.now }
+        ensures rest { rest_of result ≡ rest.now }
+    {
+        Fields { whole, rest }
     }
-}
 
-// Bytes that end early: the place is their end, where nothing is left.
-pub fn cut_short(whole: &[u8]) -> Fault
-    ensures { result ≡ cut_short Sheet whole.now }
-{
-    fault_at(Refusal::EndsEarly, whole, &[])
-}
-
-// A number from `low` to `high`.
-pub fn limited<'a>(whole: &[u8], rest: &'a [u8], low: u32, high: u32) -> Result<Number<'a>, Fault>
-    ensures gives { Gives read_of (field_at (within low high) OutsideLimit whole.now rest.now) result }
-    ensures inside { IfOk result (λ n. (low ≤ n.value) × (n.value ≤ high)) }
-{
-    let number = read_in(whole, rest)?;
-    if number.value < low || number.value > high {
-        return Err(fault_at(Refusal::OutsideLimit, whole, rest));
+    // The fields after the kind byte of a sheet, which must be `kind`.
+    pub fn of_kind(sheet: &'a [u8], kind: u8) -> Result<Fields<'a>, Fault>
+        ensures { OfKind kind sheet.now result }
+    {
+        let mut fields = Fields::new(sheet, sheet);
+        if fields.byte()? == kind {
+            Ok(fields)
+        } else {
+            Err(Fields::new(sheet, sheet).fault(Refusal::WrongKind))
+        }
     }
-    Ok(number)
-}
 
-// A number below `end`, which may be 2 to the 32nd.
-pub fn below<'a>(whole: &[u8], rest: &'a [u8], end: u64) -> Result<Number<'a>, Fault>
-    ensures gives { Gives read_of (field_at (λ v. nat_lt v end) OutsideLimit whole.now rest.now) result }
-    ensures inside { IfOk result (λ n. n.value < end) }
-{
-    let field = read_in(whole, rest)?;
-    if u64::from(field.value) < end {
-        Ok(field)
-    } else {
-        Err(fault_at(Refusal::OutsideLimit, whole, rest))
+    // The next number.
+    pub fn number(&mut self) -> Result<u32, Fault>
+        ensures { Takes number_in self.old self.new result }
+    {
+        let Number { value, rest } = read_in(self.whole, self.rest)?;
+        self.rest = rest;
+        Ok(value)
+    }
+
+    // The next number, from `low` to `high`.
+    pub fn limited(&mut self, low: u32, high: u32) -> Result<u32, Fault>
+        ensures takes { Takes (field_at (within low high) OutsideLimit) self.old self.new result }
+        ensures inside { IfOk result (λ v. (low ≤ v) × (v ≤ high)) }
+    {
+        let number = read_in(self.whole, self.rest)?;
+        self.tested(low <= number.value && number.value <= high, number)
+    }
+
+    // The next number, below `end`, which may be 2 to the 32nd.
+    pub fn below(&mut self, end: u64) -> Result<u32, Fault>
+        ensures takes { Takes (field_at (λ v. nat_lt v end) OutsideLimit) self.old self.new result }
+        ensures inside { IfOk result (λ v. v < end) }
+    {
+        let number = read_in(self.whole, self.rest)?;
+        self.tested(u64::from(number.value) < end, number)
+    }
+
+    // Takes the number that was read here if it is within its limits.
+    fn tested(&mut self, inside: bool, number: Number<'a>) -> Result<u32, Fault>
+        ensures takes { Takes (λ whole rest. tested inside OutsideLimit whole rest (Ok (read_of number.entry))) self.old self.new result }
+        ensures inside { IfOk result (λ v. (IsTrue inside) × (v ≡ number.entry.value)) }
+    {
+        if !inside {
+            return Err(self.fault(Refusal::OutsideLimit));
+        }
+        self.rest = number.rest;
+        Ok(number.value)
+    }
+
+    // The next byte.
+    pub fn byte(&mut self) -> Result<u8, Fault>
+        ensures { Takes byte_at self.old self.new result }
+    {
+        let [byte, rest @ ..] = self.rest else {
+            return Err(self.cut_short());
+        };
+        self.rest = rest;
+        Ok(*byte)
+    }
+
+    // After the last field nothing is left.
+    pub fn ended(&self) -> Result<(), Fault>
+        ensures { result ≡ ended (whole_of self.now) (rest_of self.now) tt }
+    {
+        if self.rest.is_empty() {
+            Ok(())
+        } else {
+            Err(self.fault(Refusal::LeftOver))
+        }
+    }
+
+    // A fault of the sheet reader: the place is the first byte of the field that begins here.
+    pub fn fault(&self, refusal: Refusal) -> Fault
+        ensures { result ≡ fault_at refusal Sheet (whole_of self.now) (rest_of self.now) }
+    {
+        Fault {
+            refusal,
+            place: self.whole.len().saturating_sub(self.rest.len()),
+            reader: Reader::Sheet,
+        }
+    }
+
+    // A sheet that ends early: the place is its end.
+    pub fn cut_short(&self) -> Fault
+        ensures { result ≡ cut_short Sheet (whole_of self.now) }
+    {
+        Fields { rest: &[], ..*self }.fault(Refusal::EndsEarly)
     }
 }

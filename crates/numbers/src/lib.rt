@@ -12,8 +12,10 @@ ghost use Rattle.refusals.specs.Outcomes.{Gives};
 use refusals::{Fault, Reader, Refusal};
 
 mod fields;
+mod parts;
 
-pub use fields::{below, cut_short, fault_at, limited};
+pub use fields::Fields;
+pub use parts::{below, cut_short, fault_at, limited};
 
 // A number, and the bytes after it.
 #[derive(Clone, Copy)]
@@ -38,10 +40,7 @@ const TOO_HIGH: u32 = 1 << 25;
 pub fn read_in<'a>(whole: &[u8], rest: &'a [u8]) -> Result<Number<'a>, Fault>
     ensures reads { Answers whole.now rest.now result }
 {
-    match read_groups(rest, MOST_GROUPS) {
-        Ok(number) => Ok(number),
-        Err(refusal) => Err(fault(whole, rest, refusal)),
-    }
+    read_groups(rest, MOST_GROUPS).map_err(|refusal| fault(whole, rest, refusal))
 }
 
 // The number at the front of `bytes`. Each number of 32 bits has one spelling that is accepted, in front of any bytes.
@@ -53,6 +52,7 @@ pub fn read<'a>(bytes: &'a [u8]) -> Result<Number<'a>, Fault>
 }
 
 // The number of at most `most` groups at the front of `bytes`.
+#[tactic(auto, using(crate::proofs::Reading::more_groups))]
 fn read_groups<'a>(bytes: &'a [u8], most: u8) -> Result<Number<'a>, Refusal>
     ensures { Gives read_of (read_by most bytes.now) result }
 {
@@ -207,5 +207,32 @@ mod tests {
             Reader::Sheet,
         );
         Ok(())
+    }
+
+    #[test]
+    fn fields_of_a_kind(rt: HostRuntime) -> Result<(), Fail> {
+        let mut fields = Fields::of_kind(&[3, 0xAC, 0x02, 7], 3)?;
+        assert_eq!(rt; fields.number()?, 300);
+        refuses_sheet(&rt, fields.ended(), Refusal::LeftOver, 3);
+        assert_eq!(rt; fields.byte()?, 7);
+        fields.ended()?;
+        refuses_sheet(&rt, fields.byte(), Refusal::EndsEarly, 4);
+        refuses_sheet(&rt, Fields::of_kind(&[3], 2), Refusal::WrongKind, 0);
+        refuses_sheet(&rt, Fields::of_kind(&[], 2), Refusal::EndsEarly, 0);
+        Ok(())
+    }
+
+    fn refuses_sheet<T: Drop>(
+        rt: &impl Abort,
+        outcome: Result<T, Fault>,
+        refusal: Refusal,
+        place: usize,
+    ) {
+        let fault = Fault {
+            refusal,
+            place,
+            reader: Reader::Sheet,
+        };
+        assert_eq!(rt; outcome.err(), Some(fault));
     }
 }

@@ -2,5 +2,5 @@
 use Rattle.numbers.proofs.Spelling.{one_spelling}
 use Rattle.numbers.proofs.read.Goals as goal
 
-pub returns : goal.returns
-returns c = record { reads = c.read_in.ensures.reads; spelling = one_spelling }
+pub returns-clause-spelling : goal.returns-clause-spelling
+returns-clause-spelling c = one_spelling
