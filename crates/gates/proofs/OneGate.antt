@@ -1,46 +1,95 @@
 -- The gates of a sheet, one by one: each from the fields of its set and its turn.
-use Rattle.std.proofs.Common.{◌≡◌, ℕ, suc, ◌+◌, ◌-◌, ◌^◌, ◌<◌, ltb, List, [], ◌∷◌, ◌++◌, length, take, set, Ok, Err, Result, sym, ap, ◌∙◌, arith}
-use Rattle.std.proofs.lemmas.List.{take_more_set}
+use Rattle.std.proofs.Common.{◌≡◌, ℕ, suc, ◌+◌, ◌-◌, ◌^◌, ◌<◌, ltb, List, [], ◌∷◌, ◌++◌, Ok, Err, Result, sym, refl, ap, ◌∙◌, arith}
 use Rattle.refusals.specs.declared.Fault.{Fault}
 use Rattle.refusals.specs.declared.Refusal.TheVariants.{OutsideLimit}
-use Rattle.numbers.specs.Grammar.{number, tested}
-use Rattle.numbers.specs.Number.{Read}
-use Rattle.numbers.proofs.Field.{field_ok, field_err, below_at, below_is}
+use Rattle.numbers.specs.Field.{field_at, and_then, rest_of, whole_of, Takes}
+use Rattle.numbers.specs.Grammar.{number, tested, ended, within}
+use Rattle.numbers.specs.declared.fields.Fields.{Fields}
+use Rattle.numbers.proofs.Field.{below_at, field_takes, takes_below}
+use Rattle.lists.specs.declared.bounded.Bounded.{Bounded}
+use Rattle.lists.specs.Held.{list_of}
 use Rattle.gates.specs.declared.gate.Gate.{Gate}
 use Rattle.gates.specs.Gates.{Gates}
-use Rattle.gates.specs.Sheet.{gates_left}
+use Rattle.gates.specs.Fields.{OneGate, GivesGates}
+use Rattle.gates.specs.Sheet.{gates_left, gate_fields}
+
+-- what comes after a set: the turn, and the gates that are left
+abbrev Turned : List ℕ → ℕ → ℕ → List Gate → ℕ → List ℕ → Result Gates Fault
+Turned whole n left read s rest = number whole rest (λ t after. tested (ltb t n) OutsideLimit whole rest (gates_left whole n left (read ++ (record { set = s; turn = t } ∷ [])) after))
 
 -- `sets` and `turns` are the code's ends of a set and of a turn
-pub set_refused : (sets n : ℕ) (whole rest : List ℕ) (e : Fault) → sets ≡ 2 ^ n → below_at sets whole rest ≡ Err e → (left : ℕ) (read : List Gate) → gates_left whole n (suc left) read rest ≡ Err e
-set_refused sets n whole rest e is h left read =
-    field_err (λ v. ltb v (2 ^ n)) OutsideLimit whole rest _ e (below_is sets (2 ^ n) whole rest (Err e) is h)
+set_taken : (sets n : ℕ) (before after : Fields) (r : Result ℕ Fault) → sets ≡ 2 ^ n → Takes (below_at sets) before after r → (left : ℕ) (read : List Gate) → gates_left (whole_of before) n (suc left) read (rest_of before) ≡ and_then r (λ s. Turned (whole_of before) n left read s (rest_of after))
+set_taken sets n before after r is h left read =
+    field_takes (λ v. ltb v (2 ^ n)) OutsideLimit (whole_of before) before after r (Turned (whole_of before) n left read) refl (takes_below sets (2 ^ n) before after r is h)
 
-set_read : {X : Type 0} (sets n : ℕ) (whole rest : List ℕ) (go : ℕ → List ℕ → Result X Fault) (s : Read) → sets ≡ 2 ^ n → below_at sets whole rest ≡ Ok s → number whole rest (λ v after. tested (ltb v (2 ^ n)) OutsideLimit whole rest (go v after)) ≡ go s.value s.rest
-set_read sets n whole rest go s is h =
-    field_ok (λ v. ltb v (2 ^ n)) OutsideLimit whole rest go s (below_is sets (2 ^ n) whole rest (Ok s) is h)
+turn_taken : (turns n : ℕ) (whole : List ℕ) (before after : Fields) (r : Result ℕ Fault) → turns ≡ n → whole_of before ≡ whole → Takes (below_at turns) before after r → (left : ℕ) (read : List Gate) (s : ℕ) → Turned whole n left read s (rest_of before) ≡ and_then r (λ t. gates_left whole n left (read ++ (record { set = s; turn = t } ∷ [])) (rest_of after))
+turn_taken turns n whole before after r is same h left read s =
+    field_takes (λ v. ltb v n) OutsideLimit whole before after r (λ t rest. gates_left whole n left (read ++ (record { set = s; turn = t } ∷ [])) rest) same (takes_below turns n before after r is h)
 
-pub turn_refused : (sets turns n : ℕ) (whole rest : List ℕ) (s : Read) (e : Fault) → sets ≡ 2 ^ n → turns ≡ n → below_at sets whole rest ≡ Ok s → below_at turns whole s.rest ≡ Err e → (left : ℕ) (read : List Gate) → gates_left whole n (suc left) read rest ≡ Err e
-turn_refused sets turns n whole rest s e is is₁ h h₁ left read =
-    set_read sets n whole rest _ s is h
-    ∙ field_err (λ v. ltb v n) OutsideLimit whole s.rest _ e (below_is turns n whole s.rest (Err e) is₁ h₁)
+pub set_refused : (sets n : ℕ) (before after last : Fields) (e : Fault) → sets ≡ 2 ^ n → Takes (below_at sets) before after (Err e) → OneGate n before last (Err e)
+set_refused sets n before after last e is h left read = set_taken sets n before after (Err e) is h left read
 
-pub gate_accepted : (sets turns n : ℕ) (whole rest : List ℕ) (s t : Read) → sets ≡ 2 ^ n → turns ≡ n → below_at sets whole rest ≡ Ok s → below_at turns whole s.rest ≡ Ok t → (left : ℕ) (read : List Gate) → gates_left whole n (suc left) read rest ≡ gates_left whole n left (read ++ (record { set = s.value; turn = t.value } ∷ [])) t.rest
-gate_accepted sets turns n whole rest s t is is₁ h h₁ left read =
-    set_read sets n whole rest _ s is h
-    ∙ field_ok (λ v. ltb v n) OutsideLimit whole s.rest _ t (below_is turns n whole s.rest (Ok t) is₁ h₁)
+module _ (sets turns n : ℕ) (before middle after : Fields) (s : ℕ) (is : sets ≡ 2 ^ n) (is₁ : turns ≡ n) (h : Takes (below_at sets) before middle (Ok s)) where
+  pub turn_refused : (last : Fields) (e : Fault) → Takes (below_at turns) middle after (Err e) → OneGate n before last (Err e)
+  turn_refused last e h₁ left read =
+      set_taken sets n before middle (Ok s) is h left read
+      ∙ turn_taken turns n (whole_of before) middle after (Err e) is₁ h.1 h₁ left read s
 
--- the gate at a, of k, in the code's words
-abbrev Turn : List ℕ → ℕ → ℕ → ℕ → List Gate → List ℕ → Result Gates Fault → Type 0
-Turn whole n k a gs rest all = all ≡ gates_left whole n (k - a) (take a gs) rest
+  pub gate_accepted : (t : ℕ) → Takes (below_at turns) middle after (Ok t) → OneGate n before after (Ok (record { set = s; turn = t }))
+  gate_accepted t h₁ = (
+    λ left read.
+        set_taken sets n before middle (Ok s) is h left read
+        ∙ turn_taken turns n (whole_of before) middle after (Ok t) is₁ h.1 h₁ left read s,
+    h₁.1 ∙ h.1,
+  )
 
-one_less : (k a : ℕ) → a < k → k - a ≡ suc (k - (a + 1))
-one_less k a h = omega arith
+-- after i of k gates, the fields that are left have the others
+abbrev pub Left : ℕ → ℕ → ℕ → Fields → Fields → List Gate → Type 0
+Left n k i first fields gs =
+    (gates_left (whole_of first) n k [] (rest_of first) ≡ gates_left (whole_of first) n (k - i) gs (rest_of fields)) × (whole_of fields ≡ whole_of first)
 
-pub turn_stops : (whole : List ℕ) (n k a : ℕ) (gs : List Gate) (rest : List ℕ) (all : Result Gates Fault) (e : Fault) → a < k → Turn whole n k a gs rest all → ((left : ℕ) (read : List Gate) → gates_left whole n (suc left) read rest ≡ Err e) → all ≡ Err e
-turn_stops whole n k a gs rest all e h is stops =
-    is ∙ ap (λ m. gates_left whole n m (take a gs) rest) (one_less k a h) ∙ stops (k - (a + 1)) (take a gs)
+-- one gate more is to come
+next : (n k i : ℕ) (first fields : Fields) (gs : List Gate) → i < k → Left n k i first fields gs → gates_left (whole_of first) n k [] (rest_of first) ≡ gates_left (whole_of fields) n (suc (k - (i + 1))) gs (rest_of fields)
+next n k i first fields gs h is =
+    let one_less : k - i ≡ suc (k - (i + 1)) = omega arith in
+    is.0 ∙ ap (λ m. gates_left (whole_of first) n m gs (rest_of fields)) one_less
+    ∙ ap (λ w. gates_left w n (suc (k - (i + 1))) gs (rest_of fields)) (sym is.1)
 
-pub turn_more : (whole : List ℕ) (n k a : ℕ) (gs : List Gate) (rest after : List ℕ) (all : Result Gates Fault) (g : Gate) → a < k → a < length gs → Turn whole n k a gs rest all → ((left : ℕ) (read : List Gate) → gates_left whole n (suc left) read rest ≡ gates_left whole n left (read ++ (g ∷ [])) after) → Turn whole n k (a + 1) (set gs a g) after all
-turn_more whole n k a gs rest after all g h in-gs is goes =
-    is ∙ ap (λ m. gates_left whole n m (take a gs) rest) (one_less k a h) ∙ goes (k - (a + 1)) (take a gs)
-    ∙ ap (λ read. gates_left whole n (k - (a + 1)) read after) (sym (take_more_set gs a g in-gs))
+pub left_stops : (n k i : ℕ) (first fields last : Fields) (gs : List Gate) (e : Fault) → i < k → Left n k i first fields gs → OneGate n fields last (Err e) → gates_left (whole_of first) n k [] (rest_of first) ≡ Err e
+left_stops n k i first fields last gs e h is stops = next n k i first fields gs h is ∙ stops (k - (i + 1)) gs
+
+pub left_more : (n k i : ℕ) (first fields after : Fields) (gs : List Gate) (g : Gate) → i < k → Left n k i first fields gs → OneGate n fields after (Ok g) → Left n k (i + 1) first after (gs ++ (g ∷ []))
+left_more n k i first fields after gs g h is goes = (
+  next n k i first fields gs h is ∙ goes.0 (k - (i + 1)) gs
+      ∙ ap (λ w. gates_left w n (k - (i + 1)) (gs ++ (g ∷ [])) (rest_of after)) is.1,
+  goes.1 ∙ is.1,
+)
+
+-- ---- a whole row
+
+-- the fields after the number of poses
+abbrev Counted : List ℕ → ℕ → List ℕ → Result Gates Fault
+Counted whole n rest = number whole rest (λ k after. tested (within 1 32 k) OutsideLimit whole rest (gates_left whole n k [] after))
+
+pub poses_taken : (before after : Fields) (r : Result ℕ Fault) → Takes (field_at (within 1 32) OutsideLimit) before after r → gate_fields (whole_of before) (rest_of before) ≡ and_then r (λ n. Counted (whole_of before) n (rest_of after))
+poses_taken before after r h = field_takes (within 1 32) OutsideLimit (whole_of before) before after r (Counted (whole_of before)) refl h
+
+pub count_taken : (whole : List ℕ) (n : ℕ) (before after : Fields) (r : Result ℕ Fault) → whole_of before ≡ whole → Takes (field_at (within 1 32) OutsideLimit) before after r → Counted whole n (rest_of before) ≡ and_then r (λ k. gates_left whole n k [] (rest_of after))
+count_taken whole n before after r same h = field_takes (within 1 32) OutsideLimit whole before after r (λ k rest. gates_left whole n k [] rest) same h
+
+pub ended_then : {X : Type 0} (whole rest : List ℕ) (x : X) → ended whole rest x ≡ and_then (ended whole rest (tt {0})) (λ u. Ok x)
+ended_then whole [] x = refl
+ended_then whole (b ∷ rest) x = refl
+
+-- so far, a row's fields are the gates that come after its two numbers
+pub counts_taken : (first middle last : Fields) (n k : ℕ) → Takes (field_at (within 1 32) OutsideLimit) first middle (Ok n) → Takes (field_at (within 1 32) OutsideLimit) middle last (Ok k) → (gate_fields (whole_of first) (rest_of first) ≡ gates_left (whole_of last) n k [] (rest_of last)) × (whole_of last ≡ whole_of first)
+counts_taken first middle last n k h h₁ =
+    let same : whole_of last ≡ whole_of first = h₁.1 ∙ h.1 in
+    (poses_taken first middle (Ok n) h ∙ count_taken (whole_of first) n middle last (Ok k) h.1 h₁ ∙ ap (λ w. gates_left w n k [] (rest_of last)) (sym same), same)
+
+-- and with nothing left after the gates, they are the row
+pub row_taken : (first middle third last : Fields) (n k : ℕ) (gs : Bounded Gate 32) (r : Result (Unit {0}) Fault) → Takes (field_at (within 1 32) OutsideLimit) first middle (Ok n) → Takes (field_at (within 1 32) OutsideLimit) middle third (Ok k) → GivesGates n k third last (Ok gs) → r ≡ ended (whole_of last) (rest_of last) (tt {0}) → gate_fields (whole_of first) (rest_of first) ≡ and_then r (λ u. Ok (record { poses = n; gates = list_of gs }))
+row_taken first middle third last n k gs r h h₁ g e =
+    let row : Gates = record { poses = n; gates = list_of gs } in
+    (counts_taken first middle third n k h h₁).0 ∙ g.0 ∙ ap (λ w. ended w (rest_of last) row) (sym g.2)
+    ∙ ended_then (whole_of last) (rest_of last) row ∙ ap (λ x. and_then x (λ u. Ok row)) (sym e)

@@ -1,7 +1,7 @@
 -- A gate row that keeps its rule has one sheet that is accepted.
-use Rattle.std.proofs.Common.{◌≡◌, ℕ, zero, suc, ◌^◌, ◌<◌, ◌≤◌, ltb, List, [], ◌∷◌, ◌++◌, length, get_or, take, Ok, sym, refl, ap, ◌∙◌, subst, arith, lit<, pow_mono}
+use Rattle.std.proofs.Common.{◌≡◌, ℕ, zero, suc, ◌^◌, ◌<◌, ◌≤◌, ltb, List, [], ◌∷◌, ◌++◌, length, Ok, sym, refl, ap, ◌∙◌, subst, arith, lit<, pow_mono}
 use Rattle.std.proofs.ByRecursion.{All-get_or, All-from_get_or}
-use Rattle.std.proofs.lemmas.List.{append-nil, append_assoc, get_or-take, length-take-le}
+use Rattle.std.proofs.lemmas.List.{append-nil, append_assoc}
 use Rattle.std.proofs.lemmas.Bool.{lt-ltb, ltb-true}
 use Rattle.std.specs.List.{AllByRecursion}
 use Rattle.refusals.specs.declared.Refusal.TheVariants.{OutsideLimit}
@@ -56,14 +56,6 @@ gates_only whole n (suc left) read rest t h =
     (ltb-true a.0 (2 ^ n) b.0, ltb-true d.0 n e.0)
     (gates_only whole n left _ d.1 t e.1)
 
--- the gates that are read fit their row
-pub gates_fit : (whole : List ℕ) (n k : ℕ) (rest : List ℕ) (gs : List Gate) → k ≤ length gs → gates_left whole n k [] rest ≡ Ok (record { poses = n; gates = take k gs }) → (a : ℕ) → a < k → Fitting n (get_or gs a idle)
-gates_fit whole n k rest gs long h a ha =
-    let p = gates_only whole n k [] rest (record { poses = n; gates = take k gs }) h in
-    let same : p.0 ≡ take k gs = sym (ap (λ (t : Gates). t.gates) p.4) in
-    let in-front : a < length (take k gs) = omega (arith, length-take-le k gs long) in
-    subst (Fitting n) (get_or-take k gs a idle ha) (All-get_or (Fitting n) (take k gs) a idle in-front (subst (AllByRecursion (Fitting n)) same p.3))
-
 -- what the rule says of each gate
 fitting : (t : Gates) → Keeps t → AllByRecursion (Fitting t.poses) t.gates
 fitting t k = All-from_get_or (Fitting t.poses) t.gates idle (λ a h. (k.sets a h, k.turns a h))
@@ -100,7 +92,7 @@ row_from n k rest r₁ r₂ t first second poses actions (gs, counted, after, fi
     subst (λ (u : Gates). Row rest u) (sym is)
     (keeps n gs poses.0 poses.1 (omega (arith, actions.0)) (omega (arith, actions.1)) fits, first ∙ ap (λ r. spell n ++ r) (second ∙ (ap (λ r. spell k ++ r) after ∙ ap (λ m. spell m ++ spell_gates gs) (sym counted))))
 
-fields_only : (whole rest : List ℕ) (t : Gates) → gate_fields whole rest ≡ Ok t → Row rest t
+pub fields_only : (whole rest : List ℕ) (t : Gates) → gate_fields whole rest ≡ Ok t → Row rest t
 fields_only whole rest t h =
     let a = number_only whole rest _ t h in
     let b = tested_only (within 1 32 a.0) OutsideLimit whole rest _ t a.4 in

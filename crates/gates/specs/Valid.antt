@@ -1,8 +1,7 @@
 -- Why a gate row is a feeder: what keeps its rule has a valid motion.
-use Rattle.std.specs.Prelude.{◌≡◌, ℕ, ◌+◌, ◌%◌, ◌<◌, length, take, slice_index_or}
+use Rattle.std.specs.Prelude.{ℕ, ◌+◌, ◌%◌, ◌<◌, slice_index_or}
 use Rattle.std.proofs.Common.{arith}
 use Rattle.std.proofs.lemmas.Nat.{mod_below}
-use Rattle.std.proofs.lemmas.List.{length-take-le, get_or-take}
 use Rattle.std.proofs.lemmas.Bool.{cond_both}
 use Rattle.feeders.specs.Motion.{Valid}
 use Rattle.feeders.specs.Sets.{has}
@@ -25,25 +24,5 @@ gates_valid t k = record {
   stays = λ p a hp ha. turned_stays t.poses (slice_index_or t.gates a idle) p hp;
 }
 
--- as many gates are held as are in use
-pub held_length : (r : GateRow) → length (take r.actions r.gates) ≡ r.actions
-held_length r = length-take-le r.actions r.gates (omega (arith, r.long, r.few_actions))
-
-pub held_keeps : (r : GateRow) → Keeps (gates_of r)
-held_keeps r =
-    let len : length (take r.actions r.gates) ≡ r.actions = held_length r in
-    record {
-      some_pose = r.some_pose;
-      few_poses = r.few_poses;
-      some_gate = omega (arith, len, r.some_action);
-      few_gates = omega (arith, len, r.few_actions);
-      sets = λ a h.
-          let ha : a < r.actions = omega (arith, len) in
-          rw get_or-take (r.sets a ha);
-      turns = λ a h.
-          let ha : a < r.actions = omega (arith, len) in
-          rw get_or-take (r.turns a ha);
-    }
-
 pub row_valid : (r : GateRow) → Valid (gate_motion (gates_of r))
-row_valid r = gates_valid (gates_of r) (held_keeps r)
+row_valid r = gates_valid (gates_of r) r.keeps

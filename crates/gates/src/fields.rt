@@ -1,31 +1,37 @@
-// One gate of a gate row's sheet: its set, then its turn.
+// The gates in a gate row's sheet: of each its set, then its turn.
 ghost use Rattle.std.specs.Prelude.{◌≤◌};
-ghost use Rattle.gates.specs.Fields.{OneGate};
+ghost use Rattle.gates.specs.Fields.{GivesGates, OneGate};
 
 use crate::gate::Gate;
-use numbers::below;
+use lists::Bounded;
+use numbers::Fields;
 use refusals::Fault;
 
-// A gate, and the bytes after it.
-#[derive(Clone, Copy)]
-pub(crate) struct GateAt<'a> {
-    pub(crate) gate: Gate,
-    pub(crate) rest: &'a [u8],
-}
+// A gate that turns nothing.
+pub(crate) const IDLE: Gate = Gate { set: 0, turn: 0 };
 
 // A gate of a row that has so many poses.
-pub(crate) fn gate_in<'a>(sheet: &[u8], rest: &'a [u8], poses: u32) -> Result<GateAt<'a>, Fault>
+fn read_gate(fields: &mut Fields, poses: u32) -> Result<Gate, Fault>
     requires { poses ≤ 32 }
-    ensures { OneGate poses sheet.now rest.now result }
+    ensures { OneGate poses fields.old fields.new result }
 {
-    let set = below(sheet, rest, 1 << poses)?;
-    let turn = below(sheet, set.rest, u64::from(poses))?;
-    let gate = Gate {
-        set: set.value,
-        turn: turn.value,
-    };
-    Ok(GateAt {
-        gate,
-        rest: turn.rest,
-    })
+    let set = fields.below(1 << poses)?;
+    let turn = fields.below(u64::from(poses))?;
+    Ok(Gate { set, turn })
+}
+
+// So many gates of a row.
+pub(crate) fn read_gates(
+    fields: &mut Fields,
+    poses: u32,
+    count: u32,
+) -> Result<Bounded<Gate, 32>, Fault>
+    requires { (poses ≤ 32) × (count ≤ 32) }
+    ensures { GivesGates poses count fields.old fields.new result }
+{
+    let mut gates = Bounded::new(IDLE);
+    for _ in 0..count {
+        gates.push(read_gate(fields, poses)?).unwrap();
+    }
+    Ok(gates)
 }

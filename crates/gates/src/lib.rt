@@ -6,7 +6,7 @@ mod gate;
 mod row;
 
 pub use gate::Gate;
-pub use row::GateRow;
+pub use row::{GateRow, KIND};
 
 #[cfg(test)]
 mod tests;

@@ -1,103 +1,138 @@
 -- What the checks of actions and lists come to.
-use Rattle.std.proofs.Common.{◌≡◌, ℕ, zero, suc, ◌/◌, ◌%◌, ◌^◌, ◌<◌, ◌≤◌, Bool, cond, not, ◌&&◌, T, eqb, ltb, ◌⊎◌, ◌↔◌, List, ◌∷◌, Some, Ok, Err, Option, Result, sym, refl, ap, ◌∙◌, subst, inl, inr, mod-lt, arith, eqb→eq, ltb→lt}
-use lib.Bits.{bit_or, bit_xor}
-use Rattle.std.proofs.lemmas.Nat.{or_shr, or_mod, xor_shr, xor_mod}
-use Rattle.std.proofs.lemmas.Bool.{cases_Bool, cases_lt, cond-true, cond-false, eq-eqb, lt-ltb, le-ltb}
+use Rattle.std.proofs.Common.{◌≡◌, ℕ, ◌+◌, ◌-◌, ◌*◌, ◌/◌, ◌%◌, ◌^◌, ◌<◌, ◌≤◌, min, Bool, true, false, cond, not, ◌&&◌, T, eqb, ltb, leb, ◌⊎◌, List, length, Some, Ok, Err, Option, Result, sym, refl, ap, ◌∙◌, subst, ap₂, inl, inr, mod-lt, arith, eqb→eq, count_ones}
+use lib.Count.{ones}
+use Rattle.std.specs.Bool.{then_some}
+use Rattle.std.specs.Int.{w32, bit_at, bit_not, is_power_of_two, trailing_zeros}
+use Rattle.std.specs.Result.{result_unwrap_or}
+use Rattle.std.proofs.lemmas.Nat.{pow_pos, pow_below, div-add-mod', ones_cat, ones_le_self, zero_from_ones}
+use Rattle.std.proofs.lemmas.Nat.Bits.{bit_at_and, bit_at_not, bit_at-pow_same, bit_at-pow_other, bit_at-trailing_zeros, bit_at_above, bit_at-lt}
+use Rattle.std.proofs.lemmas.Bool.{cases_Bool, cases_eq, cases_lt, and_left, and_right, eq-eqb, ne_eqb, lt-ltb, ltb-true, ltb-false, leb-true, leb-false}
 use Rattle.refusals.specs.declared.Refusal.{Refusal}
-use Rattle.refusals.specs.declared.Refusal.TheVariants.{NoAction, Barred}
+use Rattle.refusals.specs.declared.Refusal.TheVariants.{NoAction, Barred, NoPlace, PlanTooLong}
 use Rattle.feeders.specs.Motion.{Motion}
 use Rattle.feeders.specs.Sets.{has, all_below}
 use Rattle.feeders.specs.Image.{image, imaged}
 use Rattle.feeders.proofs.Images.{imaged_ok}
-use Rattle.feeders.proofs.Sets.{T_of_true, true_of_T, not-T_of_false, has_one}
+use Rattle.feeders.proofs.Sets.{T_of_true, true_of_T, not-T_of_false}
 use Rattle.graphs.specs.PairRule.{One, size_of}
 use Rattle.graphs.proofs.Sizes.{one_bit, size_one}
-use Rattle.histories.proofs.Words.{T_and, T_not}
-use Rattle.jobs.specs.Sets.{less}
-use Rattle.jobs.specs.Checks.{checked, first_bad, or_none}
+use Rattle.jobs.specs.Sets.{less, OnlyPose}
+use Rattle.plans.specs.Calls.{put}
+use Rattle.plans.specs.Calls as store
+use Rattle.histories.specs.Rules.{without}
+use Rattle.jobs.specs.Checks.{checked}
 
--- ---- answers
+-- ---- tests that refuse
 
-err_ok : (e : Refusal) (b : ℕ) → ◌≡◌ {A = Result ℕ Refusal} (Err e) (Ok b) → ⊥
-err_ok e b p = let z : ◌≡◌ {A = ℕ} 0 1 = cc in omega arith
+module _ {X : Type 0} where
+  pub passed : (b : Bool) (r : Result X Refusal) (e : Refusal) (x : X) → cond b r (Err e) ≡ Ok x → (b ≡ true) × (r ≡ Ok x)
+  passed true r e x p = (refl, p)
+  passed false r e x p = absurd (cc)
 
-same_ok : (a b : ℕ) → ◌≡◌ {A = Result ℕ Refusal} (Ok a) (Ok b) → a ≡ b
-same_ok a b p = cc
-
-same_err : (d e : Refusal) → ◌≡◌ {A = Result ℕ Refusal} (Err d) (Err e) → d ≡ e
-same_err d e p = cc
-
--- ---- one action, then a list
-
-pub first_bad_here : (m : Motion) (perm a : ℕ) (w : List ℕ) (e : Refusal) → checked m perm a ≡ Err e → first_bad m perm (a ∷ w) ≡ Some e
-first_bad_here m perm a w e p =
-    ap (λ (x : Result ℕ Refusal). elim x as (λ _. Option Refusal) [ Ok b ↦ first_bad m perm w | Err f ↦ Some f ]) p
-
-pub first_bad_later : (m : Motion) (perm a : ℕ) (w : List ℕ) (b : ℕ) → checked m perm a ≡ Ok b → first_bad m perm (a ∷ w) ≡ first_bad m perm w
-first_bad_later m perm a w b p =
-    ap (λ (x : Result ℕ Refusal). elim x as (λ _. Option Refusal) [ Ok b ↦ first_bad m perm w | Err f ↦ Some f ]) p
+  pub stopped : (b : Bool) (r : Result X Refusal) (e d : Refusal) → cond b r (Err e) ≡ Err d → ((b ≡ false) × (d ≡ e)) ⊎ ((b ≡ true) × (r ≡ Err d))
+  stopped true r e d p = inr (refl, p)
+  stopped false r e d p = inl (refl, cc)
 
 -- ---- sets of one pose
 
-pub not_one : (s : ℕ) → s < 2 ^ 32 → ((p : ℕ) → p < 32 → s ≡ 2 ^ p → ⊥) → One s → ⊥
-not_one s l n o = let r = (one_bit s l).0 o in n r.0 r.1 r.2
+-- a number with one bit is 2 ^ p where bit p is that one
+single_bit : (s p : ℕ) → bit_at s p ≡ 1 → count_ones s ≡ 1 → s ≡ 2 ^ p
+unfolding ones
+single_bit s p here one =
+    let hi = s / 2 ^ p in
+    let lo = s % 2 ^ p in
+    let parts : hi * 2 ^ p + lo ≡ s = div-add-mod' s (2 ^ p) in
+    let odd : hi / 2 * 2 ^ 1 + 1 ≡ hi = ap (λ (x : ℕ). hi / 2 * 2 + x) (sym here) ∙ div-add-mod' hi 2 in
+    let ones-s : count_ones s ≡ count_ones hi + count_ones lo = ap count_ones (sym parts) ∙ ones_cat p hi lo (mod-lt s (pow_pos p)) in
+    let ones-hi : count_ones hi ≡ count_ones (hi / 2) + 1 = ap count_ones (sym odd) ∙ ones_cat 1 (hi / 2) 1 (omega arith) in
+    let no-lo : lo ≡ 0 = zero_from_ones lo (omega arith) in
+    let no-half : hi / 2 ≡ 0 = zero_from_ones (hi / 2) (omega arith) in
+    let hi-one : hi ≡ 1 = omega arith in
+    sym parts ∙ ap₂ (λ (x y : ℕ). x * 2 ^ p + y) hi-one no-lo ∙ omega arith
 
-pub only_one : (s p : ℕ) → (p < 32) × (s ≡ 2 ^ p) → One s
-only_one s p r = ap size_of r.1 ∙ size_one p r.0
+bit_ones : (p : ℕ) → count_ones (2 ^ p) ≡ 1
+unfolding ones
+bit_ones p = ap count_ones (omega arith) ∙ ones_cat p 1 0 (pow_pos p)
+
+pub only_pose_is : (s : ℕ) → s < 2 ^ 32 → OnlyPose s (then_some (is_power_of_two s) (trailing_zeros w32 s))
+only_pose_is s l = elim (cases_Bool (is_power_of_two s)) [
+  | inl e ↦
+      let one : count_ones s ≡ 1 = eqb→eq (count_ones s) 1 (T_of_true (is_power_of_two s) e) in
+      let low = bit_at-trailing_zeros w32 s (omega (arith, ones_le_self s)) l in
+      subst (λ (b : Bool). OnlyPose s (then_some b (trailing_zeros w32 s))) (sym e) (low.0, single_bit s (trailing_zeros w32 s) low.1 one)
+  | inr e ↦ subst (λ (b : Bool). OnlyPose s (then_some b (trailing_zeros w32 s))) (sym e)
+      (λ o. let r = (one_bit s l).0 o in not-T_of_false (is_power_of_two s) e (T_of_true (is_power_of_two s) (eq-eqb (count_ones s) 1 (ap count_ones r.2 ∙ bit_ones r.0))))
+]
+
+pub only_one : (s p : ℕ) (o : Option ℕ) → o ≡ Some p → OnlyPose s o → One s
+only_one s p o e only = let r = subst (OnlyPose s) e only in ap size_of r.1 ∙ size_one p r.0
 
 -- ---- sets without a number
 
-digit_out : (x y : ℕ) → x < 2 → y < 2 → eqb (bit_xor (bit_or x y) y) 1 ≡ (eqb x 1 && not (eqb y 1))
-digit_out zero zero hx hy = refl
-digit_out zero (suc zero) hx hy = refl
-digit_out zero (suc (suc y)) hx hy = let z : ⊥ = omega arith in absurd z
-digit_out (suc zero) zero hx hy = refl
-digit_out (suc zero) (suc zero) hx hy = refl
-digit_out (suc zero) (suc (suc y)) hx hy = let z : ⊥ = omega arith in absurd z
-digit_out (suc (suc x)) y hx hy = let z : ⊥ = omega arith in absurd z
-
-has-less : (s a b : ℕ) → has (less s a) b ≡ (has s b && not (eqb b a))
-has-less s a b =
-    let x = bit_or s (2 ^ a) in
-    let y = 2 ^ a in
-    let p = 2 ^ b in
-    let up : bit_xor x y / p % 2 ≡ bit_xor (x / p % 2) (y / p % 2) = ap (λ (n : ℕ). n % 2) (xor_shr x y b) ∙ xor_mod (x / p) (y / p) 1 in
-    let in-x : x / p % 2 ≡ bit_or (s / p % 2) (y / p % 2) = ap (λ (n : ℕ). n % 2) (or_shr s y b) ∙ or_mod (s / p) (y / p) 1 in
-    ap (λ (n : ℕ). eqb n 1) (up ∙ ap (λ (n : ℕ). bit_xor n (y / p % 2)) in-x)
-    ∙ digit_out (s / p % 2) (y / p % 2) (mod-lt (s / p) (omega arith)) (mod-lt (y / p) (omega arith))
-    ∙ ap (λ (t : Bool). has s b && not t) (has_one a b)
-
-pub T-has-less : (s a b : ℕ) → T (has (less s a) b) ↔ (T (has s b) × (b ≡ a → ⊥))
-T-has-less s a b = (
-  λ t. let r = (T_and (has s b) (not (eqb b a))).0 (subst T (has-less s a b) t) in (r.0, λ e. (T_not (eqb b a)).0 r.1 (T_of_true (eqb b a) (eq-eqb b a e))),
-  λ r. subst T (sym (has-less s a b)) ((T_and (has s b) (not (eqb b a))).1 (r.0, (T_not (eqb b a)).1 (λ t. r.1 (eqb→eq b a t)))),
-)
+-- of a set of numbers below 32
+pub has-less : (s a b : ℕ) → s < 2 ^ 32 → a < 32 → has (less s a) b ≡ (has s b && not (eqb a b))
+has-less s a b l h =
+    let x = bit_at (bit_not w32 (2 ^ a)) b in
+    let both : bit_at (less s a) b ≡ min (bit_at s b) x = bit_at_and s (bit_not w32 (2 ^ a)) b in
+    let low = bit_at-lt s b in
+    elim (cases_lt b 32) [
+      | inr g ↦ let past = bit_at_above s 32 b l g in ne_eqb (bit_at (less s a) b) 1 (λ e. omega arith) ∙ sym (and_left (has s b) (not (eqb a b)) (ne_eqb (bit_at s b) 1 (λ e. omega arith)))
+      | inl k ↦ let out : x ≡ 1 - bit_at (2 ^ a) b = bit_at_not w32 (2 ^ a) b (pow_below a 32 h) k in elim (cases_eq a b) [
+        | inl e ↦
+            let one : bit_at (2 ^ a) b ≡ 1 = ap (bit_at (2 ^ a)) (sym e) ∙ bit_at-pow_same a in
+            ne_eqb (bit_at (less s a) b) 1 (λ e. omega arith) ∙ sym (and_right (has s b) (not (eqb a b)) (ap not (eq-eqb a b e)))
+        | inr n ↦
+            let none = bit_at-pow_other a b (λ e. n (sym e)) in
+            let same : bit_at (less s a) b ≡ bit_at s b = omega arith in
+            ap (λ (n : ℕ). eqb n 1) same ∙ kept (has s b) (eqb a b) (ne_eqb a b n)
+      ]
+    ]
+  where
+    kept : (t u : Bool) → u ≡ false → t ≡ (t && not u)
+    kept true u e = sym (ap not e)
+    kept false u e = refl
 
 -- ---- what a check says
 
 module _ (m : Motion) (perm a : ℕ) where
   pub checked_ok : (b : ℕ) → checked m perm a ≡ Ok b → (a < m.actions) × T (has perm a) × (b ≡ a)
   checked_ok b p =
-      elim (cases_Bool (ltb a m.actions)) [
-        | inr n ↦ absurd (err_ok NoAction b (sym (cond-false (ltb a m.actions) (cond (has perm a) (Ok a) (Err Barred)) (Err NoAction) n) ∙ p))
-        | inl l ↦ let q : cond (has perm a) (Ok a) (Err Barred) ≡ Ok b = sym (cond-true (ltb a m.actions) (cond (has perm a) (Ok a) (Err Barred)) (Err NoAction) l) ∙ p in elim (cases_Bool (has perm a)) [
-          | inr n ↦ absurd (err_ok Barred b (sym (cond-false (has perm a) (Ok a) (Err Barred) n) ∙ q))
-          | inl t ↦ (ltb→lt a m.actions (T_of_true (ltb a m.actions) l), T_of_true (has perm a) t, same_ok b a (sym q ∙ cond-true (has perm a) (Ok a) (Err Barred) t))
-        ]
-      ]
+      let known = passed (ltb a m.actions) (cond (has perm a) (Ok a) (Err Barred)) NoAction b p in
+      let free = passed (has perm a) (Ok a) Barred b known.1 in
+      (ltb-true a m.actions known.0, T_of_true (has perm a) free.0, cc)
 
   pub checked_err : (e : Refusal) → checked m perm a ≡ Err e → ((m.actions ≤ a) × (e ≡ NoAction)) ⊎ ((a < m.actions) × (T (has perm a) → ⊥) × (e ≡ Barred))
   checked_err e p =
-      elim (cases_lt a m.actions) [
-        | inr g ↦ inl (g, same_err e NoAction (sym p ∙ cond-false (ltb a m.actions) (cond (has perm a) (Ok a) (Err Barred)) (Err NoAction) (le-ltb a m.actions g)))
-        | inl l ↦ let q : cond (has perm a) (Ok a) (Err Barred) ≡ Err e = sym (cond-true (ltb a m.actions) (cond (has perm a) (Ok a) (Err Barred)) (Err NoAction) (lt-ltb a m.actions l)) ∙ p in elim (cases_Bool (has perm a)) [
-          | inl t ↦ absurd (err_ok e a (sym q ∙ cond-true (has perm a) (Ok a) (Err Barred) t))
-          | inr n ↦ inr (l, (λ t. not-T_of_false (has perm a) n t), same_err e Barred (sym q ∙ cond-false (has perm a) (Ok a) (Err Barred) n))
+      elim (stopped (ltb a m.actions) (cond (has perm a) (Ok a) (Err Barred)) NoAction e p) [
+        | inl r ↦ inl (ltb-false a m.actions r.0, r.1)
+        | inr r ↦ elim (stopped (has perm a) (Ok a) Barred e r.1) [
+          | inl s ↦ inr (ltb-true a m.actions r.0, not-T_of_false (has perm a) s.0, s.1)
+          | inr s ↦ absurd (cc)
         ]
       ]
 
+-- ---- what the plan store answers
+
+pub stored_ok : (xs ys : List ℕ) → put xs ≡ Ok ys → (ys ≡ xs) × (length xs ≤ 16384)
+stored_ok xs ys p = let r = passed (leb (length xs) 16384) (Ok xs) PlanTooLong ys p in (cc, leb-true (length xs) 16384 r.0)
+
+pub stored_err : (xs : List ℕ) (e : Refusal) → put xs ≡ Err e → (e ≡ PlanTooLong) × (16384 < length xs)
+stored_err xs e p = elim (stopped (leb (length xs) 16384) (Ok xs) PlanTooLong e p) [
+  | inl r ↦ (r.1, leb-false (length xs) 16384 r.0)
+  | inr r ↦ absurd (cc)
+]
+
+pub removed_ok : (xs ys : List ℕ) (n : ℕ) → store.without xs n ≡ Ok ys → (ys ≡ without xs n) × (n < length xs)
+removed_ok xs ys n p = let r = passed (ltb n (length xs)) (Ok (without xs n)) NoPlace ys p in (cc, ltb-true n (length xs) r.0)
+
+pub removed_err : (xs : List ℕ) (n : ℕ) (e : Refusal) → store.without xs n ≡ Err e → (e ≡ NoPlace) × (length xs ≤ n)
+removed_err xs n e p = elim (stopped (ltb n (length xs)) (Ok (without xs n)) NoPlace e p) [
+  | inl r ↦ (r.1, ltb-false n (length xs) r.0)
+  | inr r ↦ absurd (cc)
+]
+
 -- ---- where a list brings a set
 
-pub brought_image : (m : Motion) (s : ℕ) (w : List ℕ) → s < 2 ^ m.poses → T (all_below m.actions w) → or_none (imaged m s w) ≡ image m s w
+pub brought_image : (m : Motion) (s : ℕ) (w : List ℕ) → s < 2 ^ m.poses → T (all_below m.actions w) → result_unwrap_or (imaged m s w) 0 ≡ image m s w
 brought_image m s w l t =
-    ap or_none (imaged_ok m s w (lt-ltb s (2 ^ m.poses) l) (true_of_T (all_below m.actions w) t))
+    ap (λ (r : Result ℕ Refusal). result_unwrap_or r 0) (imaged_ok m s w (lt-ltb s (2 ^ m.poses) l) (true_of_T (all_below m.actions w) t))

@@ -1,11 +1,10 @@
 -- One call more, in a run of calls.
-use Rattle.std.proofs.Common.{◌≡◌, ℕ, ◌+◌, ◌<◌, ◌≤◌, min, List, [], ◌∷◌, reverse, length, get_or, take, set, None, Ok, sym, refl, ap, ◌∙◌, subst, inl, inr, arith, get_or-set_other, get_or-set_same}
+use Rattle.std.proofs.Common.{◌≡◌, ℕ, ◌+◌, ◌<◌, ◌≤◌, min, List, [], ◌∷◌, reverse, length, get_or, take, set, None, Ok, sym, refl, ap, ◌∙◌, inl, inr, arith, get_or-set_other, get_or-set_same}
 use mathlib.Core.List.{reverse-append}
 use Rattle.std.proofs.lemmas.List.{take_more, take_all}
 use Rattle.std.proofs.lemmas.Bool.{cases_eq, cases_lt}
 use Rattle.feeders.specs.Motion.{Motion}
-use Rattle.histories.specs.Rules.{Plans, Answer, Rule}
-use Rattle.histories.specs.Promise.{Sure}
+use Rattle.histories.specs.Rules.{Plans, Answer}
 use Rattle.histories.specs.declared.call.Call.{Call}
 use Rattle.histories.specs.declared.call.Call.TheVariants.{Bar}
 use Rattle.jobs.specs.Reach.{Reached, Leads}
@@ -27,8 +26,8 @@ placed_same m calls xs ys k e p = record {
   before = p.before;
   after = p.after;
   held = p.held;
-  rule = subst (λ (r : Answer). Rule m (reverse (take k calls)) p.before (get_or calls k (Bar 0)) p.after r) e p.rule;
-  sure = subst (λ (r : Answer). Sure m (reverse (take k calls)) (get_or calls k (Bar 0)) p.before p.after r) e p.sure;
+  rule = rw (← e) p.rule;
+  sure = rw (← e) p.sure;
 }
 
 module _ {F : Type 0} (m : Motion) (calls : List Call) (old : List Answer) where
@@ -43,14 +42,14 @@ module _ {F : Type 0} (m : Motion) (calls : List Call) (old : List Answer) where
         before = ran.plan;
         after = t.0;
         held = ran.reached.held_as;
-        rule = subst (λ (x : Answer). Rule m (reverse (take i calls)) ran.plan (get_or calls i (Bar 0)) t.0 x) (sym here) t.2;
-        sure = subst (λ (x : Answer). Sure m (reverse (take i calls)) (get_or calls i (Bar 0)) ran.plan t.0 x) (sym here) t.3;
+        rule = rw here t.2;
+        sure = rw here t.3;
       } in
       record {
         plan = t.0;
-        reached = subst (λ (h : List Call). Reached m h t.0 next) (sym (one_more calls i lc)) t.1;
+        reached = rw (one_more calls i lc) t.1;
         placed = λ k h. elim (cases_eq k i) [
-          | inl e ↦ subst (Placed m calls (set answers i r)) (sym e) new
+          | inl e ↦ rw e new
           | inr n ↦ placed_same m calls answers (set answers i r) k (sym (get_or-set_other answers i k r (Ok None) n)) (ran.placed k (omega (arith, n)))
         ];
         rest = λ k h. get_or-set_other answers i k r (Ok None) (omega arith) ∙ ran.rest k (omega arith);

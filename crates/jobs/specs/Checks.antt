@@ -1,5 +1,5 @@
 -- What is asked of actions and lists, under a set of permitted actions.
-use Rattle.std.specs.Prelude.{ℕ, Bool, false, cond, List, [], ◌∷◌, Some, None, Ok, Err, Option, Result, ◌==◌, nat_lt}
+use Rattle.std.specs.Prelude.{ℕ, cond, List, [], ◌∷◌, Some, None, Ok, Err, Option, Result, nat_lt}
 use Rattle.refusals.specs.declared.Refusal.{Refusal}
 use Rattle.refusals.specs.declared.Refusal.TheVariants.{NoAction, Barred}
 use Rattle.feeders.specs.Motion.{Motion}
@@ -13,13 +13,3 @@ checked m perm a = cond (nat_lt a m.actions) (cond (has perm a) (Ok a) (Err Barr
 abbrev pub first_bad : Motion → ℕ → List ℕ → Option Refusal
 first_bad m perm [] = None
 first_bad m perm (a ∷ w) = elim (checked m perm a) [ Ok b ↦ first_bad m perm w | Err e ↦ Some e ]
-
--- the set that is answered, and the empty one for a refusal
-abbrev pub or_none : Result ℕ Refusal → ℕ
-or_none (Ok s) = s
-or_none (Err e) = 0
-
--- the list begins with the action
-abbrev pub starts_with : List ℕ → ℕ → Bool
-starts_with [] a = false
-starts_with (b ∷ w) a = b == a

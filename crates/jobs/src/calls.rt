@@ -20,8 +20,9 @@ pub fn run<F: Feeder>(feeder: F, calls: &[Call], answers: &mut [Answer]) -> Job<
 {
     let mut job = Job::new(feeder);
     let count = calls.len().min(answers.len());
-    for i in 0..count {
-        answers[i] = job.perform(&calls[i]);
+    // The answers by their place: nothing is known of what is written through a zip with iter_mut.
+    for (i, call) in calls[..count].iter().enumerate() {
+        answers[i] = job.perform(call);
     }
     job
 }

@@ -15,7 +15,6 @@ pub struct Job<F: Feeder> {
     allowed: u32,
     // the set of the possible poses
     poses: u32,
-    plan: Plan,
-    // whether the plan counts
-    held: bool,
+    // the plan that is held, if one is
+    plan: Option<Plan>,
 }

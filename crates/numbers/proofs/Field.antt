@@ -1,13 +1,13 @@
 -- A number field of a sheet: what follows it, or its fault.
-use Rattle.std.proofs.Common.{◌≡◌, ℕ, ◌^◌, ◌<◌, Bool, true, false, cond, eqb, ltb, List, [], ◌∷◌, ◌++◌, Ok, Err, Result, sym, refl, ap, ◌∙◌, subst, arith}
+use Rattle.std.proofs.Common.{◌≡◌, ℕ, ◌^◌, ◌<◌, Bool, true, ltb, List, [], ◌∷◌, ◌++◌, Ok, Err, Result, refl, ◌∙◌, subst, arith}
 use Rattle.refusals.specs.declared.Refusal.{Refusal}
-use Rattle.refusals.specs.declared.Refusal.TheVariants.{NoPose, NoAction, Barred, NoPlan, NoPlace, PlanTooLong, Apart, CannotOrient, CannotEndThere, EndsEarly, BadNumber, WrongKind, OutsideLimit, OutOfOrder, LeftOver, BufferTooShort}
+use Rattle.refusals.specs.declared.Refusal.TheVariants.{OutsideLimit}
 use Rattle.refusals.specs.declared.Fault.{Fault}
 use Rattle.numbers.specs.Number.{Read, number_at, spell}
 use Rattle.numbers.specs.Field.{field_at, and_then, number_in, byte_at, whole_of, rest_of, Takes, OfKind}
+use Rattle.std.proofs.lemmas.Bool.Decides.{nat_tests}
 use Rattle.numbers.specs.declared.fields.Fields.{Fields}
-use Rattle.refusals.specs.declared.Reader.TheVariants.{Sheet}
-use Rattle.numbers.specs.Grammar.{number, byte, fault_at, number_fault, tested, kinded, within}
+use Rattle.numbers.specs.Grammar.{number, byte, number_fault, tested, kinded, within}
 use Rattle.numbers.proofs.Spelling.{number_at-spell, number_at_only}
 
 -- the field, from what was read
@@ -15,14 +15,14 @@ abbrev field : {X : Type 0} → List ℕ → List ℕ → (ℕ → List ℕ → 
 field whole rest go r = elim r [ Ok n ↦ go n.value n.rest | Err e ↦ Err (number_fault whole rest e) ]
 
 pub number_ok : {X : Type 0} (whole rest : List ℕ) (go : ℕ → List ℕ → Result X Fault) (v : ℕ) (after : List ℕ) → number_at rest ≡ Ok (record { value = v; rest = after }) → number whole rest go ≡ go v after
-number_ok whole rest go v after h = ap (λ (r : Result Read Refusal). field whole rest go r) h
+number_ok whole rest go v after h = grind arith
 
 pub number-spell : {X : Type 0} (whole : List ℕ) (v : ℕ) (after : List ℕ) (go : ℕ → List ℕ → Result X Fault) → v < 2 ^ 32 → number whole (spell v ++ after) go ≡ go v after
-number-spell whole v after go h = number_ok whole (spell v ++ after) go v after (number_at-spell v after h)
+number-spell whole v after go h = grind (arith, number_at-spell v after h)
 
 field_only : {X : Type 0} (whole rest : List ℕ) (go : ℕ → List ℕ → Result X Fault) (x : X) (r : Result Read Refusal) → number_at rest ≡ r → field whole rest go r ≡ Ok x → (v : ℕ) × (after : List ℕ) × (v < 2 ^ 32) × (rest ≡ spell v ++ after) × (go v after ≡ Ok x)
 field_only whole rest go x (Ok n) h f = let p = number_at_only rest n h in (n.value, n.rest, p.0, p.1, f)
-field_only whole rest go x (Err e) h f = let z : ◌≡◌ {A = ℕ} 0 1 = cc in let no : ⊥ = omega arith in elim no [ ]
+field_only whole rest go x (Err e) h f = cc
 
 -- a number field that is accepted is the spelling of a number, and what follows accepts the bytes after it
 pub number_only : {X : Type 0} (whole rest : List ℕ) (go : ℕ → List ℕ → Result X Fault) (x : X) → number whole rest go ≡ Ok x → (v : ℕ) × (after : List ℕ) × (v < 2 ^ 32) × (rest ≡ spell v ++ after) × (go v after ≡ Ok x)
@@ -30,8 +30,7 @@ number_only whole rest go x h = field_only whole rest go x (number_at rest) refl
 
 -- A field with a test: what follows it follows what the field gives by itself.
 pub test_then : {X : Type 0} (ok : Bool) (e : Refusal) (whole rest : List ℕ) (n : Read) (go : Read → Result X Fault) → tested ok e whole rest (go n) ≡ and_then (tested ok e whole rest (Ok n)) go
-test_then true e whole rest n go = refl
-test_then false e whole rest n go = refl
+test_then ok e whole rest n go = grind arith
 
 pub field_then : {X : Type 0} (test : ℕ → Bool) (e : Refusal) (whole rest : List ℕ) (go : Read → Result X Fault) → number whole rest (λ v after. tested (test v) e whole rest (go (record { value = v; rest = after }))) ≡ and_then (field_at test e whole rest) go
 field_then {X} test e whole rest go = by (number_at rest)
@@ -42,10 +41,10 @@ field_then {X} test e whole rest go = by (number_at rest)
 
 -- so it goes on where the field is accepted, and has the field's fault where it is refused
 pub field_ok : {X : Type 0} (test : ℕ → Bool) (e : Refusal) (whole rest : List ℕ) (go : ℕ → List ℕ → Result X Fault) (n : Read) → field_at test e whole rest ≡ Ok n → number whole rest (λ v after. tested (test v) e whole rest (go v after)) ≡ go n.value n.rest
-field_ok test e whole rest go n h = field_then test e whole rest (λ r. go r.value r.rest) ∙ ap (λ (r : Result Read Fault). and_then r (λ q. go q.value q.rest)) h
+field_ok test e whole rest go n h = grind (arith, nat_tests)
 
 pub field_err : {X : Type 0} (test : ℕ → Bool) (e : Refusal) (whole rest : List ℕ) (go : ℕ → List ℕ → Result X Fault) (f : Fault) → field_at test e whole rest ≡ Err f → number whole rest (λ v after. tested (test v) e whole rest (go v after)) ≡ Err f
-field_err test e whole rest go f h = field_then test e whole rest (λ r. go r.value r.rest) ∙ ap (λ (r : Result Read Fault). and_then r (λ q. go q.value q.rest)) h
+field_err test e whole rest go f h = grind (arith, nat_tests)
 
 -- the two tests that sheets have most: from low to high, and below an end
 abbrev pub limited_at : ℕ → ℕ → List ℕ → List ℕ → Result Read Fault
@@ -60,30 +59,11 @@ below_is end n whole rest r is h = subst (λ (m : ℕ). below_at m whole rest �
 
 -- the fault has the refusal that it was made for
 pub number_fault_refusal : (whole rest : List ℕ) (e : Refusal) → (number_fault whole rest e).refusal ≡ e
-number_fault_refusal whole rest NoPose = refl
-number_fault_refusal whole rest NoAction = refl
-number_fault_refusal whole rest Barred = refl
-number_fault_refusal whole rest NoPlan = refl
-number_fault_refusal whole rest NoPlace = refl
-number_fault_refusal whole rest PlanTooLong = refl
-number_fault_refusal whole rest Apart = refl
-number_fault_refusal whole rest CannotOrient = refl
-number_fault_refusal whole rest CannotEndThere = refl
-number_fault_refusal whole rest EndsEarly = refl
-number_fault_refusal whole rest BadNumber = refl
-number_fault_refusal whole rest WrongKind = refl
-number_fault_refusal whole rest OutsideLimit = refl
-number_fault_refusal whole rest OutOfOrder = refl
-number_fault_refusal whole rest LeftOver = refl
-number_fault_refusal whole rest BufferTooShort = refl
+number_fault_refusal whole rest e = grind (arith, nat_tests)
 
 -- The same for a number with no test, and for one byte.
 pub number_then : {X : Type 0} (whole rest : List ℕ) (go : Read → Result X Fault) → number whole rest (λ v after. go (record { value = v; rest = after })) ≡ and_then (number_in whole rest) go
-number_then {X} whole rest go = by (number_at rest)
-  where
-    by : (r : Result Read Refusal) → field whole rest (λ v after. go (record { value = v; rest = after })) r ≡ and_then (field whole rest (λ v after. Ok (record { value = v; rest = after })) r) go
-    by (Ok n) = refl
-    by (Err f) = refl
+number_then whole rest go = field_then (λ v. true) OutsideLimit whole rest go
 
 pub byte_then : {X : Type 0} (whole rest : List ℕ) (go : Read → Result X Fault) → byte whole rest (λ b after. go (record { value = b; rest = after })) ≡ and_then (byte_at whole rest) go
 byte_then whole [] go = refl
@@ -92,10 +72,8 @@ byte_then whole (b ∷ rest) go = refl
 -- What a reader took from the front of a sheet's fields: what follows it goes on from the fields after it, or has its fault.
 -- `whole` is the sheet, whatever was taken before.
 pub takes_then : {X : Type 0} (reader : List ℕ → List ℕ → Result Read Fault) (whole : List ℕ) (before after : Fields) (r : Result ℕ Fault) (go : Read → Result X Fault) → whole_of before ≡ whole → Takes reader before after r → and_then (reader whole (rest_of before)) go ≡ and_then r (λ v. go (record { value = v; rest = rest_of after }))
-takes_then reader whole before after (Ok v) go is h =
-    ap (λ (w : List ℕ). and_then (reader w (rest_of before)) go) (sym is) ∙ ap (λ (r : Result Read Fault). and_then r go) h.0
-takes_then reader whole before after (Err e) go is h =
-    ap (λ (w : List ℕ). and_then (reader w (rest_of before)) go) (sym is) ∙ ap (λ (r : Result Read Fault). and_then r go) h.0
+takes_then reader whole before after (Ok v) go is h = grind arith
+takes_then reader whole before after (Err e) go is h = grind arith
 
 -- so for a number that passes a test, for a number with no test, and for one byte
 pub field_takes : {X : Type 0} (test : ℕ → Bool) (e : Refusal) (whole : List ℕ) (before after : Fields) (r : Result ℕ Fault) (go : ℕ → List ℕ → Result X Fault) → whole_of before ≡ whole → Takes (field_at test e) before after r → number whole (rest_of before) (λ v rest. tested (test v) e whole (rest_of before) (go v rest)) ≡ and_then r (λ v. go v (rest_of after))
@@ -112,19 +90,14 @@ byte_takes whole before after r go is h =
 
 -- the end that code has, in a wider type, is that of the format
 pub takes_below : (end n : ℕ) (before after : Fields) (r : Result ℕ Fault) → end ≡ n → Takes (below_at end) before after r → Takes (below_at n) before after r
-takes_below end n before after r is h = subst (λ (m : ℕ). Takes (below_at m) before after r) is h
+takes_below end n before after (Ok v) is h = grind arith
+takes_below end n before after (Err e) is h = grind arith
 
 -- A sheet of one kind is what its fields are, and another has the fault.
 kinded_then : {X : Type 0} (k : ℕ) (sheet : List ℕ) (go : List ℕ → Result X Fault) → kinded k sheet go ≡ and_then (kinded k sheet (λ rest. Ok rest)) go
 kinded_then k [] go = refl
-kinded_then {X} k (b ∷ rest) go = by (eqb b k)
-  where
-    by : (is : Bool) → cond is (go rest) (Err (fault_at WrongKind Sheet (b ∷ rest) (b ∷ rest))) ≡ and_then (cond is (Ok rest) (Err (fault_at WrongKind Sheet (b ∷ rest) (b ∷ rest)))) go
-    by true = refl
-    by false = refl
+kinded_then k (b ∷ rest) go = grind (arith, nat_tests)
 
 pub kind_takes : {X : Type 0} (k : ℕ) (sheet : List ℕ) (r : Result Fields Fault) (go : List ℕ → List ℕ → Result X Fault) → OfKind k sheet r → kinded k sheet (go sheet) ≡ and_then r (λ f. go (whole_of f) (rest_of f))
-kind_takes k sheet (Ok f) go h =
-    kinded_then k sheet (go sheet) ∙ ap (λ (r : Result (List ℕ) Fault). and_then r (go sheet)) h.0
-    ∙ ap (λ (w : List ℕ). go w (rest_of f)) (sym h.1)
-kind_takes k sheet (Err e) go h = kinded_then k sheet (go sheet) ∙ ap (λ (r : Result (List ℕ) Fault). and_then r (go sheet)) h
+kind_takes k sheet (Ok f) go h = grind (arith, kinded_then k sheet (go sheet))
+kind_takes k sheet (Err e) go h = grind (arith, kinded_then k sheet (go sheet))

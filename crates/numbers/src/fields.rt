@@ -2,7 +2,7 @@
 // `whole` is the sheet, and `rest` is the end of it that starts at the field.
 ghost use Rattle.std.specs.Prelude.{◌≡◌, ◌<◌, ◌≤◌, IfOk, IsTrue, nat_lt};
 ghost use Rattle.numbers.specs.Field.{OfKind, Takes, byte_at, field_at, number_in, read_of, rest_of, whole_of};
-ghost use Rattle.numbers.specs.Grammar.{cut_short, ended, fault_at, tested, within};
+ghost use Rattle.numbers.specs.Grammar.{cut_short, ended, fault_at, place, tested, within};
 ghost use Rattle.refusals.specs.declared.Reader.TheVariants.{Sheet};
 ghost use Rattle.refusals.specs.declared.Refusal.TheVariants.{OutsideLimit};
 
@@ -52,7 +52,7 @@ impl<'a> Fields<'a> {
         ensures inside { IfOk result (λ v. (low ≤ v) × (v ≤ high)) }
     {
         let number = read_in(self.whole, self.rest)?;
-        self.tested(low <= number.value && number.value <= high, number)
+        self.tested((low..=high).contains(&number.value), number)
     }
 
     // The next number, below `end`, which may be 2 to the 32nd.
@@ -104,7 +104,7 @@ impl<'a> Fields<'a> {
     {
         Fault {
             refusal,
-            place: self.whole.len().saturating_sub(self.rest.len()),
+            place: self.place(),
             reader: Reader::Sheet,
         }
     }
@@ -113,6 +113,17 @@ impl<'a> Fields<'a> {
     pub fn cut_short(&self) -> Fault
         ensures { result ≡ cut_short Sheet (whole_of self.now) }
     {
-        Fields { rest: &[], ..*self }.fault(Refusal::EndsEarly)
+        Fault {
+            refusal: Refusal::EndsEarly,
+            place: self.whole.len(),
+            reader: Reader::Sheet,
+        }
+    }
+
+    // The place of the first byte that is not read yet.
+    pub(crate) fn place(&self) -> usize
+        ensures { result ≡ place (whole_of self.now) (rest_of self.now) }
+    {
+        self.whole.len().saturating_sub(self.rest.len())
     }
 }

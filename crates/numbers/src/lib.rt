@@ -5,7 +5,7 @@ ghost use Rattle.std.specs.Prelude.{◌≡◌};
 ghost use Rattle.numbers.specs.Answers.{Answers};
 ghost use Rattle.numbers.specs.Field.{read_of};
 ghost use Rattle.numbers.specs.Grammar.{number_fault};
-ghost use Rattle.numbers.specs.Reading.{read_by};
+ghost use Rattle.numbers.specs.Reading.{joined, read_by};
 ghost use Rattle.numbers.specs.Spelling.{OneSpelling};
 ghost use Rattle.refusals.specs.Outcomes.{Gives};
 
@@ -68,11 +68,17 @@ fn read_groups<'a>(bytes: &'a [u8], most: u8) -> Result<Number<'a>, Refusal>
             rest,
         });
     }
-    let high = read_groups(rest, most - 1)?;
-    if high.value < LEAST_HIGH || high.value >= TOO_HIGH {
+    joined(*group, read_groups(rest, most - 1)?)
+}
+
+// A group that calls for others, in front of the higher part that they make.
+fn joined<'a>(group: u8, high: Number<'a>) -> Result<Number<'a>, Refusal>
+    ensures { Gives read_of (joined group (Ok (read_of high.entry))) result }
+{
+    if !(LEAST_HIGH..TOO_HIGH).contains(&high.value) {
         return Err(Refusal::BadNumber);
     }
-    let value = u32::from(*group % GROUP) + u32::from(GROUP) * high.value;
+    let value = u32::from(group % GROUP) + u32::from(GROUP) * high.value;
     Ok(Number {
         value,
         rest: high.rest,
@@ -85,7 +91,7 @@ fn fault(whole: &[u8], rest: &[u8], refusal: Refusal) -> Fault
 {
     let place = match refusal {
         Refusal::EndsEarly => whole.len(),
-        _ => whole.len().saturating_sub(rest.len()),
+        _ => Fields::new(whole, rest).place(),
     };
     Fault {
         refusal,

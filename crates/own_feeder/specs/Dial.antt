@@ -1,12 +1,12 @@
 -- What a dial does with a part: a ring of positions; action 0 turns it by one, action 1 kicks the part off position 0 to position 1.
-use Rattle.std.specs.Prelude.{ℕ, ◌+◌, ◌%◌, ◌<◌, ◌≤◌, cond, ◌==◌}
+use Rattle.std.specs.Prelude.{ℕ, ◌+◌, ◌%◌, ◌≤◌, if◌then◌else◌, ◌==◌}
 use Rattle.std.proofs.Common.{arith}
 use Rattle.std.proofs.lemmas.Nat.{mod_below}
-use Rattle.std.proofs.lemmas.Bool.{cond_both}
+use Rattle.std.proofs.lemmas.Bool.Decides.{nat_tests}
 use Rattle.feeders.specs.Motion.{Motion, Valid}
 
 abbrev pub dial_next : ℕ → ℕ → ℕ → ℕ
-dial_next n p a = cond (a == 0) ((p + 1) % n) (cond (p == 0) (1 % n) p)
+dial_next n p a = if a == 0 then (p + 1) % n else (if p == 0 then 1 % n else p)
 
 abbrev pub dial_motion : ℕ → Motion
 dial_motion n = record { poses = n; actions = 2; next = dial_next n }
@@ -18,9 +18,7 @@ dial_valid n some few = record {
   few_poses = few;
   some_action = omega arith;
   few_actions = omega arith;
-  stays = λ p a hp ha. cond_both (a == 0) ((p + 1) % n) (cond (p == 0) (1 % n) p) (λ q. q < n)
-      (λ _. mod_below (p + 1) n some)
-      (λ _. cond_both (p == 0) (1 % n) p (λ q. q < n) (λ _. mod_below 1 n some) (λ _. hp));
+  stays = λ p a hp ha. grind (arith, nat_tests, mod_below);
 }
 
 -- a number of positions that no feeder can have

@@ -1,1 +1,2 @@
 pub mod Dial
+pub mod Action

@@ -1,6 +1,10 @@
 // A feeder of a customer's own: a dial with a ring of positions and a kicker at position 0.
 ghost use Rattle.std.specs.Prelude.{◌≡◌, ◌≤◌, MatchOption};
-ghost use Rattle.own_feeder.specs.Dial.{Beyond};
+ghost use Rattle.own_feeder.specs.Dial.{Beyond, dial_motion, dial_valid};
+
+use crate::action::Action;
+use feeders::Feeder;
+use refusals::Refusal;
 
 #[derive(Clone, Copy)]
 pub struct Dial {
@@ -14,15 +18,36 @@ impl Dial {
     pub fn new(positions: u32) -> Option<Dial>
         ensures { MatchOption result (Beyond positions) (λ d. d.positions ≡ positions) }
     {
-        if positions < 1 || positions > 32 {
-            return None;
+        if (1..=32).contains(&positions) {
+            Some(Dial { positions })
+        } else {
+            None
         }
-        Some(Dial { positions })
+    }
+}
+
+impl Feeder for Dial {
+    ghost motion = { λ d. dial_motion d.positions };
+
+    ghost valid = { λ d. dial_valid d.positions d.some d.few };
+
+    fn poses(&self) -> u32 {
+        self.positions
     }
 
-    pub fn positions(&self) -> u32
-        ensures { result ≡ self.now.positions }
-    {
-        self.positions
+    fn actions(&self) -> u32 {
+        Action::COUNT
+    }
+
+    fn follow(&self, pose: u32, action: u32) -> Result<u32, Refusal> {
+        let n = self.positions;
+        if pose >= n {
+            return Err(Refusal::NoPose);
+        }
+        Ok(match Action::try_from(action)? {
+            Action::Turn => (pose + 1) % n,
+            Action::Kick if pose == 0 => 1 % n,
+            Action::Kick => pose,
+        })
     }
 }

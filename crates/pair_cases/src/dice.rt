@@ -1,12 +1,15 @@
 // A feeder made of random numbers: an entry of its table for each pose and action.
 ghost use Rattle.std.specs.Prelude.{◌≡◌, ◌≤◌, MatchOption};
-ghost use Rattle.pair_cases.specs.Dice.{Beyond};
+ghost use Rattle.pair_cases.specs.Dice.{Beyond, dice_motion, dice_valid};
+
+use feeders::Feeder;
+use refusals::Refusal;
 
 #[derive(Clone, Copy)]
 pub struct Dice {
-    pub(crate) poses: u32,
-    pub(crate) actions: u32,
-    pub(crate) table: [u8; 32],
+    poses: u32,
+    actions: u32,
+    table: [u8; 32],
     ghost some: { 1 ≤ poses },
     ghost few: { poses ≤ 6 },
     ghost can: { 1 ≤ actions },
@@ -18,13 +21,39 @@ impl Dice {
     pub fn new(poses: u32, actions: u32, table: [u8; 32]) -> Option<Dice>
         ensures { MatchOption result (Beyond poses actions) (λ d. (d.poses ≡ poses) × (d.actions ≡ actions) × (d.table ≡ table)) }
     {
-        if poses < 1 || poses > 6 || actions < 1 || actions > 4 {
-            return None;
+        if (1..=6).contains(&poses) && (1..=4).contains(&actions) {
+            Some(Dice {
+                poses,
+                actions,
+                table,
+            })
+        } else {
+            None
         }
-        Some(Dice {
-            poses,
-            actions,
-            table,
-        })
+    }
+}
+
+impl Feeder for Dice {
+    ghost motion = { λ d. dice_motion d.poses d.actions d.table };
+
+    ghost valid = { λ d. dice_valid d.poses d.actions d.table d.some d.few d.can d.short };
+
+    fn poses(&self) -> u32 {
+        self.poses
+    }
+
+    fn actions(&self) -> u32 {
+        self.actions
+    }
+
+    fn follow(&self, pose: u32, action: u32) -> Result<u32, Refusal> {
+        if pose >= self.poses {
+            return Err(Refusal::NoPose);
+        }
+        if action >= self.actions {
+            return Err(Refusal::NoAction);
+        }
+        let place = pose * 4 + action;
+        Ok(u32::from(self.table[place as usize]) % self.poses)
     }
 }

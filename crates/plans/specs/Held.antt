@@ -1,7 +1,7 @@
 -- What a plan in memory holds.
-use Rattle.std.specs.Prelude.{ℕ, List, take}
+use Rattle.std.specs.Prelude.{ℕ, List}
+use Rattle.lists.specs.Held.{list_of as items_of}
 use Rattle.plans.specs.declared.plan.Plan.{Plan}
 
--- the actions in use are the front of the array
 abbrev pub list_of : Plan → List ℕ
-list_of p = take p.length p.actions
+list_of p = items_of p.actions

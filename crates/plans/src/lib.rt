@@ -3,7 +3,7 @@
 
 mod plan;
 
-pub use plan::Plan;
+pub use plan::{Plan, ROOM};
 
 #[cfg(test)]
 mod tests;

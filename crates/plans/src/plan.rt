@@ -1,13 +1,13 @@
-// A plan as it is held: an array with room for 16,384 actions, and how many of them are in use.
-ghost use Rattle.std.specs.Prelude.{◌≤◌};
+// A plan as it is held: a list of up to 16,384 actions, in place.
+use lists::Bounded;
 
 mod change;
 mod look;
 
-// The actions from `length` on are not in use, whatever they are.
+// How many actions a plan has room for.
+pub const ROOM: usize = 16384;
+
 #[derive(Clone, Copy)]
 pub struct Plan {
-    actions: [u8; 16384],
-    length: usize,
-    ghost fits: { length ≤ 16384 },
+    actions: Bounded<u8, ROOM>,
 }

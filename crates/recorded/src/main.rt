@@ -54,7 +54,7 @@ fn show(rt: &HostRuntime, bytes: &[u8]) -> io::Result<()> {
 }
 
 fn print_refusal(rt: &HostRuntime, refusal: Refusal) -> io::Result<()> {
-    let number = u8::from(refusal);
+    let number = refusal.number();
     println!(rt; "refused with {number}")
 }
 

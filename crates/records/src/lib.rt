@@ -4,9 +4,6 @@
 mod reading;
 mod writing;
 
-pub use reading::read;
-pub use writing::write;
-
 // What a record tells: the numbers of poses and actions of the feeder, the end pose, and the actions of the plan.
 #[derive(Clone, Copy)]
 pub struct Record<'a> {

@@ -1,5 +1,6 @@
 // Reading a record, byte by byte: each field is tested before the next is looked at.
-ghost use Rattle.std.specs.Prelude.{◌≡◌, []};
+ghost use Rattle.std.specs.Prelude.{◌≡◌, ◌≤◌, [], length, take, nat_lt};
+ghost use Rattle.std.specs.List.{take_while};
 ghost use Rattle.numbers.specs.Field.{read_of};
 ghost use Rattle.numbers.specs.Grammar.{within};
 ghost use Rattle.records.specs.Held.{contents_of};
@@ -11,19 +12,22 @@ use crate::{END, FIRST, KIND, MOST, ROOM, Record};
 use numbers::Number;
 use refusals::{Fault, Reader, Refusal};
 
-// The plan of a record; the actions are handed out as a part of the record.
-pub fn read<'a>(bytes: &'a [u8]) -> Result<Record<'a>, Fault>
-    ensures reads { Gives contents_of (record_at bytes.now) result }
-    ensures format { OneRecord }
-    ensures places { FaultPlaces }
-{
-    let [kind, fields @ ..] = bytes else {
-        return Err(fault_at(Refusal::EndsEarly, 0));
-    };
-    if *kind != KIND {
-        return Err(fault_at(Refusal::WrongKind, 0));
+impl<'a> Record<'a> {
+    // The plan of a record; the actions are handed out as a part of the record.
+    #[tactic(auto, using(crate::proofs::FaultPlaces::fault_places, crate::proofs::OneRecord::one_record))]
+    pub fn read(bytes: &'a [u8]) -> Result<Self, Fault>
+        ensures reads { Gives contents_of (record_at bytes.now) result }
+        ensures format { OneRecord }
+        ensures places { FaultPlaces }
+    {
+        let [kind, fields @ ..] = bytes else {
+            return Err(fault_at(Refusal::EndsEarly, 0));
+        };
+        if *kind != KIND {
+            return Err(fault_at(Refusal::WrongKind, 0));
+        }
+        fields_in(fields)
     }
-    fields_in(fields)
 }
 
 // The same for the bytes after the kind.
@@ -50,7 +54,7 @@ fn field_in<'a>(rest: &'a [u8], place: usize, low: u32, high: u32) -> Result<Num
         return Err(fault_at(Refusal::EndsEarly, place));
     };
     let value = u32::from(*byte);
-    if value < low || value > high {
+    if !(low..=high).contains(&value) {
         return Err(fault_at(Refusal::OutsideLimit, place));
     }
     Ok(Number { value, rest: after })
@@ -58,23 +62,35 @@ fn field_in<'a>(rest: &'a [u8], place: usize, low: u32, high: u32) -> Result<Num
 
 // The actions up to the end byte, after which nothing is left.
 fn list_in<'a>(rest: &'a [u8], actions: u32) -> Result<&'a [u8], Fault>
+    requires { actions ≤ 32 }
     ensures { Gives (λ s. s.now) (list_at actions [] rest.now) result }
 {
-    for (i, byte) in rest.iter().enumerate() {
-        if *byte == END {
-            if i + 1 < rest.len() {
-                return Err(fault_at(Refusal::LeftOver, FIRST + i + 1));
-            }
-            return Ok(&rest[0..i]);
-        }
-        if u32::from(*byte) >= actions {
-            return Err(fault_at(Refusal::OutsideLimit, FIRST + i));
-        }
-        if i == ROOM {
-            return Err(fault_at(Refusal::PlanTooLong, FIRST + i));
-        }
+    let count = actions_in(rest, actions);
+    let (list, after) = rest.split_at(count);
+    let [byte, more @ ..] = after else {
+        return Err(fault_at(Refusal::EndsEarly, FIRST + count));
+    };
+    if u32::from(*byte) < actions {
+        return Err(fault_at(Refusal::PlanTooLong, FIRST + count));
     }
-    Err(fault_at(Refusal::EndsEarly, FIRST + rest.len()))
+    if *byte != END {
+        return Err(fault_at(Refusal::OutsideLimit, FIRST + count));
+    }
+    if !more.is_empty() {
+        return Err(fault_at(Refusal::LeftOver, FIRST + count + 1));
+    }
+    Ok(list)
+}
+
+// How many actions stand at the front of some bytes, up to the most that a plan has.
+fn actions_in(rest: &[u8], actions: u32) -> usize
+    ensures counts { result ≡ length (take ROOM (take_while (λ b. nat_lt b actions) rest.now)) }
+    ensures within { result ≤ length rest.now }
+{
+    rest.iter()
+        .take_while(|byte| u32::from(**byte) < actions)
+        .take(ROOM)
+        .count()
 }
 
 // A fault of the record reader.

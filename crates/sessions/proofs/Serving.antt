@@ -1,51 +1,31 @@
--- A request that makes a call, served on a job.
-use Rattle.std.proofs.Common.{◌≡◌, ℕ, List, Some, refl, ap, ◌∙◌}
+-- A request that makes a call, which is refused.
+use Rattle.std.proofs.Common.{◌≡◌, ℕ, List, Some, None, Err, IsErrAnd, Option, Result, sym, refl, ap, ◌∙◌, subst}
+use Rattle.std.specs.Result.{result_err, result_unwrap_or}
+use Rattle.std.proofs.lemmas.Result.{err_from_is_err_and}
+use Rattle.refusals.specs.declared.Refusal.{Refusal}
 use Rattle.feeders.specs.Motion.{Motion}
 use Rattle.scripts.specs.declared.request.Request.{Request}
-use Rattle.scripts.specs.declared.request.Request.TheVariants.{Bar, Allow, Shake, Step, Plan, Add, Cut, Aim, Trace}
-use Rattle.histories.specs.Rules.{Plans, Answer, length_of}
+use Rattle.scripts.specs.declared.request.Request.TheVariants.{Trace}
+use Rattle.histories.specs.Rules.{Plans}
 use Rattle.histories.specs.declared.call.Call.{Call}
-use Rattle.jobs.specs.Reach.{Reached}
+use Rattle.jobs.specs.Reach.{Reached, Leads}
 use Rattle.jobs.specs.declared.job.Job.{Job}
-use Rattle.sessions.specs.Served.{Served, Makes, Replies}
-use Rattle.sessions.specs.declared.reply.Reply.{Reply}
+use Rattle.sessions.specs.Served.{Called, Done, Written, called_by, with_call}
 
-module _ {F : Type 0} (m : Motion) (j k : Job F) (r : Reply) where
-  pub makes_same : (q : Request) (answer : Answer) → Makes m j q k answer → k.feeder ≡ j.feeder
-  makes_same (Bar a) answer p = p.feeder_same
-  makes_same (Allow a) answer p = p.feeder_same
-  makes_same Shake answer p = p.feeder_same
-  makes_same (Step a) answer p = p.feeder_same
-  makes_same Plan answer p = p.feeder_same
-  makes_same (Add a) answer p = p.feeder_same
-  makes_same (Cut n) answer p = p.feeder_same
-  makes_same (Aim q) answer p = p.feeder_same
-  makes_same Trace answer p = ap (λ (x : Job F). x.feeder) p
+module _ (m : Motion) (h : List Call) (plan : Plans) (c : Call) (refusal : Option Refusal) (before : List ℕ) where
+  writes_none : (q : Option Request) → called_by q ≡ Some c → Written m h plan q refusal 0 before before
+  writes_none None is = absurd (cc)
+  writes_none (Some Trace) is = absurd (cc)
+  writes_none (Some _) is = (refl, refl)
 
-  module _ (before : List ℕ) (h : List Call) (plan : Plans) (R : Reached m h plan j) where
-    pub call_served : (q : Request) → (q ≡ Trace → ⊥) → Replies m j q k r → Served m h plan (Some q) k before before r
-    call_served (Bar a) other s =
-        let t = s.made.leads h plan R in
-        record { request = s.request; next = t.0; reached = t.1; told = s.plan ∙ ap length_of t.1.plan_as; called = (s.answer, t.2, t.3, s.refusal); written = (s.rows, refl) }
-    call_served (Allow a) other s =
-        let t = s.made.leads h plan R in
-        record { request = s.request; next = t.0; reached = t.1; told = s.plan ∙ ap length_of t.1.plan_as; called = (s.answer, t.2, t.3, s.refusal); written = (s.rows, refl) }
-    call_served Shake other s =
-        let t = s.made.leads h plan R in
-        record { request = s.request; next = t.0; reached = t.1; told = s.plan ∙ ap length_of t.1.plan_as; called = (s.answer, t.2, t.3, s.refusal); written = (s.rows, refl) }
-    call_served (Step a) other s =
-        let t = s.made.leads h plan R in
-        record { request = s.request; next = t.0; reached = t.1; told = s.plan ∙ ap length_of t.1.plan_as; called = (s.answer, t.2, t.3, s.refusal); written = (s.rows, refl) }
-    call_served Plan other s =
-        let t = s.made.leads h plan R in
-        record { request = s.request; next = t.0; reached = t.1; told = s.plan ∙ ap length_of t.1.plan_as; called = (s.answer, t.2, t.3, s.refusal); written = (s.rows, refl) }
-    call_served (Add a) other s =
-        let t = s.made.leads h plan R in
-        record { request = s.request; next = t.0; reached = t.1; told = s.plan ∙ ap length_of t.1.plan_as; called = (s.answer, t.2, t.3, s.refusal); written = (s.rows, refl) }
-    call_served (Cut n) other s =
-        let t = s.made.leads h plan R in
-        record { request = s.request; next = t.0; reached = t.1; told = s.plan ∙ ap length_of t.1.plan_as; called = (s.answer, t.2, t.3, s.refusal); written = (s.rows, refl) }
-    call_served (Aim p) other s =
-        let t = s.made.leads h plan R in
-        record { request = s.request; next = t.0; reached = t.1; told = s.plan ∙ ap length_of t.1.plan_as; called = (s.answer, t.2, t.3, s.refusal); written = (s.rows, refl) }
-    call_served Trace other s = absurd (other refl)
+pub call_refused : {F : Type 0} (m : Motion) (j k : Job F) (q : Option Request) (c : Call) → called_by q ≡ Some c → (before : List ℕ) (r : Result ℕ Refusal) (e : Refusal) → IsErrAnd r (λ x. x ≡ e) → Leads m j c k (Err e) → (h : List Call) (plan : Plans) → Reached m h plan j → Done m h plan q k before before r
+call_refused m j k q c is before r e refused leads h plan R =
+    let p = err_from_is_err_and r refused in
+    let answer : r ≡ Err e = p.1 ∙ ap (λ (x : Refusal). Err x) p.2 in
+    let t = leads h plan R in
+    subst (Done m h plan q k before before) (sym answer) (record {
+      next = t.0;
+      reached = subst (λ (x : Option Call). Reached m (with_call x h) t.0 k) (sym is) t.1;
+      called = subst (λ (x : Option Call). Called m h plan t.0 x (Some e)) (sym is) (Err e, t.2, t.3, refl);
+      written = writes_none m h plan c (Some e) before q is;
+    })

@@ -1,5 +1,6 @@
 -- What a line of a script does on a job, and what a whole script does.
 use Rattle.std.specs.Prelude.{◌≡◌, ℕ, ◌+◌, ◌*◌, List, [], ◌∷◌, Some, None, Ok, Err, Option, Result}
+use Rattle.std.specs.Result.{result_err, result_unwrap_or}
 use Rattle.refusals.specs.declared.Refusal.{Refusal}
 use Rattle.refusals.specs.declared.Refusal.TheVariants.{OutsideLimit}
 use Rattle.feeders.specs.Motion.{Motion}
@@ -11,7 +12,7 @@ use Rattle.histories.specs.Rules.{Plans, Answer, length_of, Rule}
 use Rattle.histories.specs.Promise.{Sure}
 use Rattle.histories.specs.declared.call.Call.{Call}
 use Rattle.histories.specs.declared.call.Call.TheVariants as call
-use Rattle.jobs.specs.Reach.{plan_of, Reached, Performs}
+use Rattle.jobs.specs.Reach.{Reached}
 use Rattle.jobs.specs.Tells.{Traces}
 use Rattle.jobs.specs.declared.job.Job.{Job}
 use Rattle.sessions.specs.declared.reply.Reply.{Reply}
@@ -46,11 +47,6 @@ after_lines (line ∷ more) h = after_lines more (with_call (called_by (request_
 abbrev pub history_of : List ℕ → List Call
 history_of script = after_lines (lines_of script) []
 
--- why it was refused, if it was
-abbrev pub refusal_in : {X : Type 0} → Result X Refusal → Option Refusal
-refusal_in (Ok x) = None
-refusal_in (Err e) = Some e
-
 -- the bytes of the rows of an accepted trace
 abbrev pub rows_in : Result ℕ Refusal → ℕ
 rows_in (Ok n) = 12 * (n + 1)
@@ -59,20 +55,13 @@ rows_in (Err e) = 0
 -- What a line is answered by, after the history h with `plan` held, which leaves the plan `next`: a call by the rules and surely.
 abbrev pub Called : Motion → List Call → Plans → Plans → Option Call → Option Refusal → Type 0
 Called m h plan next None refusal = Unit {0}
-Called m h plan next (Some c) refusal = (r : Answer) × Rule m h plan c next r × Sure m h c plan next r × (refusal ≡ refusal_in r)
+Called m h plan next (Some c) refusal = (r : Answer) × Rule m h plan c next r × Sure m h c plan next r × (refusal ≡ result_err r)
 
 -- A line of another form is a value outside its limit. A trace writes rows. Any other line writes nothing.
 abbrev pub Written : Motion → List Call → Plans → Option Request → Option Refusal → ℕ → List ℕ → List ℕ → Type 0
 Written m h plan None refusal rows before after = (refusal ≡ Some OutsideLimit) × (rows ≡ 0) × (after ≡ before)
-Written m h plan (Some (Bar a)) refusal rows before after = (rows ≡ 0) × (after ≡ before)
-Written m h plan (Some (Allow a)) refusal rows before after = (rows ≡ 0) × (after ≡ before)
-Written m h plan (Some Shake) refusal rows before after = (rows ≡ 0) × (after ≡ before)
-Written m h plan (Some (Step a)) refusal rows before after = (rows ≡ 0) × (after ≡ before)
-Written m h plan (Some Plan) refusal rows before after = (rows ≡ 0) × (after ≡ before)
-Written m h plan (Some (Add a)) refusal rows before after = (rows ≡ 0) × (after ≡ before)
-Written m h plan (Some (Cut n)) refusal rows before after = (rows ≡ 0) × (after ≡ before)
-Written m h plan (Some (Aim q)) refusal rows before after = (rows ≡ 0) × (after ≡ before)
-Written m h plan (Some Trace) refusal rows before after = (r : Result ℕ Refusal) × Traces m h before after r plan × (refusal ≡ refusal_in r) × (rows ≡ rows_in r)
+Written m h plan (Some Trace) refusal rows before after = (r : Result ℕ Refusal) × Traces m h before after r plan × (refusal ≡ result_err r) × (rows ≡ rows_in r)
+Written m h plan (Some _) refusal rows before after = (rows ≡ 0) × (after ≡ before)
 
 -- What a line that makes the request q, or none, does on a job that the calls h led to, with `plan` held:
 -- it leaves the job k, and `after` in the buffer.
@@ -85,25 +74,11 @@ pub record Served {F : Type 0} (m : Motion) (h : List Call) (plan : Plans) (q : 
   pub called : Called m h plan next (called_by q) r.refusal
   pub written : Written m h plan q r.refusal r.rows before after
 
--- ---- the words of private functions
+-- ---- the word of a private function
 
--- the call of a request is made on the job j
-abbrev pub Makes : {F : Type 0} → Motion → Job F → Request → Job F → Answer → Type 0
-Makes m j (Bar a) k r = Performs m j (call.Bar a) k r
-Makes m j (Allow a) k r = Performs m j (call.Allow a) k r
-Makes m j Shake k r = Performs m j call.Shake k r
-Makes m j (Step a) k r = Performs m j (call.Step a) k r
-Makes m j Plan k r = Performs m j call.Plan k r
-Makes m j (Add a) k r = Performs m j (call.Add a) k r
-Makes m j (Cut n) k r = Performs m j (call.Cut n) k r
-Makes m j (Aim q) k r = Performs m j (call.Aim q) k r
-Makes m j Trace k r = k ≡ j
-
--- the reply to such a request: no rows, and the plan that the job k holds
-pub record Replies {F : Type 0} (m : Motion) (j : Job F) (q : Request) (k : Job F) (r : Reply) : Type 0 where
-  pub answer : Answer
-  pub made : Makes m j q k answer
-  pub request : r.request ≡ Some q
-  pub refusal : r.refusal ≡ refusal_in answer
-  pub plan : r.plan ≡ length_of (plan_of k)
-  pub rows : r.rows ≡ 0
+-- The same of what a request does, or none, where r is how many bytes of rows there are, or the refusal.
+pub record Done {F : Type 0} (m : Motion) (h : List Call) (plan : Plans) (q : Option Request) (k : Job F) (before after : List ℕ) (r : Result ℕ Refusal) : Type 0 where
+  pub next : Plans
+  pub reached : Reached m (with_call (called_by q) h) next k
+  pub called : Called m h plan next (called_by q) (result_err r)
+  pub written : Written m h plan q (result_err r) (result_unwrap_or r 0) before after

@@ -5,8 +5,68 @@ use feeders::Feeder;
 use scripts::fault_line;
 use std::io;
 
+// The kind byte, and the form of numbers.
+const NUMBERS: &[&[u8]] = &[
+    &[],
+    &[0],
+    &[9],
+    &[0x81, 0],
+    &[3],
+    &[3, 3],
+    &[3, 3, 0x80],
+    &[1, 0x80, 0],
+    &[1, 0x80, 0x80, 0x80, 0x80],
+    &[1, 0x80, 0x80, 0x80, 0x80, 0x80],
+    &[1, 0xFF, 0xFF, 0xFF, 0xFF, 0x10],
+];
+
+const SQUEEZE_TABLES: &[&[u8]] = &[
+    &[1, 1],
+    &[1, 2, 1, 1, 0, 0, 0],
+    &[1, 0xA0, 0x99, 2, 1, 1, 0, 0, 0],
+    &[1, 0xA1, 0x99, 2, 1, 1, 0, 0, 0],
+    &[1, 10, 0],
+    &[1, 10, 33],
+    &[1, 10, 1, 33],
+    &[1, 10, 2, 1, 0, 5, 4],
+    &[1, 10, 2, 1, 0, 5, 5],
+    &[1, 10, 2, 1, 0, 5, 6, 5],
+    &[1, 10, 2, 1, 3, 12, 4],
+    &[1, 10, 2, 1, 3, 12, 11],
+    &[1, 10, 2, 1, 3, 4, 5, 12, 9],
+    &[1, 10, 2, 1, 3, 4, 5, 13, 9],
+    &[1, 10, 1, 1, 0, 0, 10],
+    &[1, 10, 1, 1, 0, 0, 9, 0],
+];
+
+const TRAYS: &[&[u8]] = &[
+    &[2, 1, 0],
+    &[2, 17],
+    &[2, 1, 17],
+    &[2, 1, 2, 0x2E],
+    &[2, 1, 2, 0x2E, 0x2F],
+    &[2, 1, 2, 0x23, 0x23],
+    &[2, 1, 2, 0x23, 0x23, 0],
+    &[2, 1, 1, 0x2E, 0],
+    &[2, 1, 3, 0x2E, 0x2E, 0x2E],
+    &[2, 1, 3, 0x2E, 0x23, 0x2E],
+];
+
+const GATE_ROWS: &[&[u8]] = &[
+    &[3, 0],
+    &[3, 33],
+    &[3, 3, 0],
+    &[3, 3, 33],
+    &[3, 3, 1, 8, 0],
+    &[3, 3, 1, 7, 3],
+    &[3, 3, 2, 7, 1, 4],
+    &[3, 3, 2, 7, 1, 4, 1],
+    &[3, 32, 1, 0xFF, 0xFF, 0xFF, 0xFF, 0x0F, 31],
+    &[3, 3, 2, 7, 1, 4, 1, 0],
+];
+
 // Prints the feeder's poses and actions, or the program's line and the reader that stopped.
-fn show(rt: &HostRuntime, sheet: &[u8]) -> io::Result<()> {
+fn show(rt: &(impl Print + AllocGlobal), sheet: &[u8]) -> io::Result<()> {
     for byte in sheet {
         print!(rt; "{byte:02X} ")?;
     }
@@ -17,76 +77,17 @@ fn show(rt: &HostRuntime, sheet: &[u8]) -> io::Result<()> {
             println!(rt; "= {poses} poses, {actions} actions")
         }
         Err(fault) => {
-            let reader = fault.reader;
-            print!(rt; "= {reader:?} ")?;
+            print!(rt; "= {:?} ", fault.reader)?;
             rt.print(fault_line(rt.alloc(), fault)?)
         }
     }
 }
 
-// The kind byte, and the form of numbers.
-fn numbers(rt: &HostRuntime) -> io::Result<()> {
-    show(rt, &[])?;
-    show(rt, &[0])?;
-    show(rt, &[9])?;
-    show(rt, &[0x81, 0])?;
-    show(rt, &[3])?;
-    show(rt, &[3, 3])?;
-    show(rt, &[3, 3, 0x80])?;
-    show(rt, &[1, 0x80, 0])?;
-    show(rt, &[1, 0x80, 0x80, 0x80, 0x80])?;
-    show(rt, &[1, 0x80, 0x80, 0x80, 0x80, 0x80])?;
-    show(rt, &[1, 0xFF, 0xFF, 0xFF, 0xFF, 0x10])
-}
-
-fn squeeze_tables(rt: &HostRuntime) -> io::Result<()> {
-    show(rt, &[1, 1])?;
-    show(rt, &[1, 2, 1, 1, 0, 0, 0])?;
-    show(rt, &[1, 0xA0, 0x99, 2, 1, 1, 0, 0, 0])?;
-    show(rt, &[1, 0xA1, 0x99, 2, 1, 1, 0, 0, 0])?;
-    show(rt, &[1, 10, 0])?;
-    show(rt, &[1, 10, 33])?;
-    show(rt, &[1, 10, 1, 33])?;
-    show(rt, &[1, 10, 2, 1, 0, 5, 4])?;
-    show(rt, &[1, 10, 2, 1, 0, 5, 5])?;
-    show(rt, &[1, 10, 2, 1, 0, 5, 6, 5])?;
-    show(rt, &[1, 10, 2, 1, 3, 12, 4])?;
-    show(rt, &[1, 10, 2, 1, 3, 12, 11])?;
-    show(rt, &[1, 10, 2, 1, 3, 4, 5, 12, 9])?;
-    show(rt, &[1, 10, 2, 1, 3, 4, 5, 13, 9])?;
-    show(rt, &[1, 10, 1, 1, 0, 0, 10])?;
-    show(rt, &[1, 10, 1, 1, 0, 0, 9, 0])
-}
-
-fn trays(rt: &HostRuntime) -> io::Result<()> {
-    show(rt, &[2, 1, 0])?;
-    show(rt, &[2, 17])?;
-    show(rt, &[2, 1, 17])?;
-    show(rt, &[2, 1, 2, 0x2E])?;
-    show(rt, &[2, 1, 2, 0x2E, 0x2F])?;
-    show(rt, &[2, 1, 2, 0x23, 0x23])?;
-    show(rt, &[2, 1, 2, 0x23, 0x23, 0])?;
-    show(rt, &[2, 1, 1, 0x2E, 0])?;
-    show(rt, &[2, 1, 3, 0x2E, 0x2E, 0x2E])?;
-    show(rt, &[2, 1, 3, 0x2E, 0x23, 0x2E])
-}
-
-fn gate_rows(rt: &HostRuntime) -> io::Result<()> {
-    show(rt, &[3, 0])?;
-    show(rt, &[3, 33])?;
-    show(rt, &[3, 3, 0])?;
-    show(rt, &[3, 3, 33])?;
-    show(rt, &[3, 3, 1, 8, 0])?;
-    show(rt, &[3, 3, 1, 7, 3])?;
-    show(rt, &[3, 3, 2, 7, 1, 4])?;
-    show(rt, &[3, 3, 2, 7, 1, 4, 1])?;
-    show(rt, &[3, 32, 1, 0xFF, 0xFF, 0xFF, 0xFF, 0x0F, 31])?;
-    show(rt, &[3, 3, 2, 7, 1, 4, 1, 0])
-}
-
 fn main(rt: HostRuntime) -> io::Result<()> {
-    numbers(&rt)?;
-    squeeze_tables(&rt)?;
-    trays(&rt)?;
-    gate_rows(&rt)
+    for sheets in [NUMBERS, SQUEEZE_TABLES, TRAYS, GATE_ROWS] {
+        for sheet in sheets {
+            show(&rt, sheet)?;
+        }
+    }
+    Ok(())
 }

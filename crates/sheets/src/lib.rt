@@ -1,18 +1,15 @@
 // Sheets of any kind: the kind byte chooses the reader of the fields.
 #![tactic(auto)]
 
-ghost use Rattle.gates.specs.Sheet.{gate_fields};
 ghost use Rattle.numbers.specs.Format.{OneSheet};
 ghost use Rattle.refusals.specs.Outcomes.{Gives};
-ghost use Rattle.sheets.specs.Described.{Keeps, described, jaws, motion_of, on_ok, row, spelled, tray};
+ghost use Rattle.sheets.specs.Described.{Keeps, described, motion_of, spelled};
 ghost use Rattle.sheets.specs.Held.{described_by};
 ghost use Rattle.sheets.specs.Valid.{sheet_valid};
-ghost use Rattle.squeeze.specs.Sheet.{squeeze_fields};
-ghost use Rattle.trays.specs.Sheet.{tray_fields};
 
 use feeders::Feeder;
 use gates::GateRow;
-use numbers::{cut_short, fault_at};
+use numbers::Fields;
 use refusals::{Fault, Refusal};
 use squeeze::SqueezeTable;
 use trays::Tray;
@@ -34,42 +31,15 @@ fn read_kind(sheet: &[u8]) -> Result<SheetFeeder, Fault>
     ensures { Gives described_by (described sheet.now) result }
 {
     let [kind, fields @ ..] = sheet else {
-        return Err(cut_short(sheet));
+        return Err(Fields::new(sheet, sheet).cut_short());
     };
-    if *kind == 1 {
-        return read_squeeze(sheet, fields);
+    let fields = Fields::new(sheet, fields);
+    match *kind {
+        squeeze::KIND => SqueezeTable::read(fields).map(SheetFeeder::Squeeze),
+        trays::KIND => Tray::read(fields).map(SheetFeeder::Tray),
+        gates::KIND => GateRow::read(fields).map(SheetFeeder::Gates),
+        _ => Err(Fields::new(sheet, sheet).fault(Refusal::WrongKind)),
     }
-    if *kind == 2 {
-        return read_tray(sheet, fields);
-    }
-    if *kind == 3 {
-        return read_gates(sheet, fields);
-    }
-    Err(fault_at(Refusal::WrongKind, sheet, sheet))
-}
-
-fn read_squeeze(sheet: &[u8], fields: &[u8]) -> Result<SheetFeeder, Fault>
-    ensures { Gives described_by (on_ok jaws (squeeze_fields sheet.now fields.now)) result }
-{
-    let mut table = SqueezeTable::new();
-    table.fill_fields(sheet, fields)?;
-    Ok(SheetFeeder::Squeeze(table))
-}
-
-fn read_tray(sheet: &[u8], fields: &[u8]) -> Result<SheetFeeder, Fault>
-    ensures { Gives described_by (on_ok tray (tray_fields sheet.now fields.now)) result }
-{
-    let mut table = Tray::new();
-    table.fill_fields(sheet, fields)?;
-    Ok(SheetFeeder::Tray(table))
-}
-
-fn read_gates(sheet: &[u8], fields: &[u8]) -> Result<SheetFeeder, Fault>
-    ensures { Gives described_by (on_ok row (gate_fields sheet.now fields.now)) result }
-{
-    let mut table = GateRow::new();
-    table.fill_fields(sheet, fields)?;
-    Ok(SheetFeeder::Gates(table))
 }
 
 impl Feeder for SheetFeeder {

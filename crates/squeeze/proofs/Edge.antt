@@ -1,9 +1,13 @@
 -- The edge rule: step_of is the one step that StepOf describes.
-use Rattle.std.proofs.Common.{◌≡◌, ℕ, zero, suc, ◌+◌, ◌-◌, ◌<◌, ◌≤◌, cond, leb, ◌⊎◌, List, [], ◌∷◌, length, sym, refl, ap, ◌∙◌, subst, inl, inr, arith}
-use Rattle.std.proofs.lemmas.Bool.{cases_Bool, cases_lt, cases_order, leb-true, leb-false, cond-true, cond-false}
+use Rattle.std.proofs.Common.{◌≡◌, ℕ, zero, suc, ◌+◌, ◌-◌, ◌<◌, ◌≤◌, cond, leb, true, false, ◌⊎◌, List, [], ◌∷◌, length, Some, None, Option, sym, refl, ap, ◌∙◌, subst, inl, inr, arith}
+use Rattle.std.proofs.lemmas.Bool.{cases_Bool, cases_eq, cases_lt, cases_order, leb-true, leb-false, cond-true, cond-false}
+use Rattle.std.specs.Option.{SomeIff, unwrap_or}
+use Rattle.std.specs.List.Sorted.{IsPartitionPoint, IsPartitionedBy}
+use Rattle.std.proofs.lemmas.List.Sorted.{IsNonDecreasingBy-from_default, IsPartitionedBy-leb}
 use Rattle.squeeze.specs.declared.step.Step.{Step}
-use Rattle.squeeze.specs.Squeeze.{Squeeze, Keeps, StepOf, begin, last_not_above, step_of}
+use Rattle.squeeze.specs.Squeeze.{Squeeze, Keeps, StepOf, blank, begin, last_not_above, step_of}
 use Rattle.squeeze.specs.Valid.{step_within}
+use Rattle.squeeze.proofs.Rule.{one_more}
 
 -- beginnings strictly rise
 abbrev pub Rising : List Step → Type 0
@@ -29,10 +33,6 @@ pub record Found (ss : List Step) (x i r j : ℕ) : Type 0 where
 
 abbrev Finds : List Step → ℕ → ℕ → ℕ → ℕ → Type 0
 Finds ss x i none r = (((k : ℕ) → k < length ss → x < begin ss k) × (r ≡ none)) ⊎ ((j : ℕ) × Found ss x i r j)
-
-one_more : (P : ℕ → Type 0) → P 0 → ((k : ℕ) → P (suc k)) → (k : ℕ) → P k
-one_more P z s zero = z
-one_more P z s (suc k) = s k
 
 finds : (ss : List Step) (x i none : ℕ) → Finds ss x i none (last_not_above ss x i none)
 finds [] x i none = inl (λ k h. omega arith, refl)
@@ -105,3 +105,33 @@ step_of_unique t k x i j p q =
         ]
       ]
     ]
+
+-- the beginnings are sorted, so those at x or below are in front
+pub begun_parts : (t : Squeeze) → Keeps t → (x : ℕ) → IsPartitionedBy (λ s. leb s.begin x) t.steps
+begun_parts t k x =
+    IsPartitionedBy-leb (λ s. s.begin) t.steps x (IsNonDecreasingBy-from_default (λ s. s.begin) t.steps blank (λ i j le l. elim (cases_lt i j) [
+      | inl lt ↦ omega (arith, rising t k i j lt l)
+      | inr ge ↦ let e : i ≡ j = omega arith in omega (arith, ap (begin t.steps) e)
+    ]))
+
+-- and end with the step of x; where there are none, it is the last of all
+pub begun_ends : (t : Squeeze) → Keeps t → (x n r : ℕ) (o : Option ℕ) → n ≤ length t.steps → IsPartitionPoint (λ s. leb s.begin x ≡ true) (λ s. leb s.begin x ≡ false) t.steps n → SomeIff o (1 ≤ n) (n - 1) → r ≡ unwrap_or o (length t.steps - 1) → StepOf t.steps x r
+begun_ends t k x n r None few parts none is =
+    let z : n ≡ 0 = elim (cases_eq n 0) [ inl z ↦ z | inr p ↦ absurd (none (omega (arith, p))) ] in
+    let above : x < begin t.steps 0 = leb-false _ x (parts.1 0 blank (omega arith) (omega (arith, k.some_step))) in
+    record { there = omega (arith, k.some_step); covers = inr (above, omega (arith, k.some_step)) }
+begun_ends t k x n r (Some i) few parts some is =
+    let last : suc r ≡ n = omega (arith, some.0, some.1) in
+    record {
+      there = omega arith;
+      covers = inl (
+        leb-true _ x (parts.0 r blank (omega arith) (omega arith)),
+        λ j l h. elim (cases_order r j) [
+          | inl same ↦ omega (arith, ap (begin t.steps) same)
+          | inr o ↦ elim o [
+            | inl lt ↦ let above : x < begin t.steps j = leb-false _ x (parts.1 j blank (omega arith) l) in omega arith
+            | inr gt ↦ omega (arith, rising t k j r gt (omega arith))
+          ]
+        ],
+      );
+    }

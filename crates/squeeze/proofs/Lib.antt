@@ -1,6 +1,5 @@
 pub mod Edge
-pub mod Made
-pub mod Motions
+pub mod Moves
 pub mod Readings
 pub mod Rule
 pub mod Sheets

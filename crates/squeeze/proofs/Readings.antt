@@ -1,110 +1,107 @@
--- The sheet reader, field by field, reads what squeeze_fields says.
-use Rattle.std.proofs.Common.{◌≡◌, ℕ, suc, ◌+◌, ◌-◌, ◌<◌, ◌≤◌, ltb, List, [], ◌∷◌, ◌++◌, length, take, set, Ok, Err, Result, sym, refl, ap, ◌∙◌, arith}
-use Rattle.std.proofs.lemmas.List.{get_or-take, get_or_append_left, length-take-le, take_more_set}
+-- What comes of the fields before a part of a sheet comes of what the part gave and the fields after it.
+use Rattle.std.proofs.Common.{◌≡◌, ℕ, suc, ◌+◌, ◌-◌, ◌<◌, true, ltb, List, [], ◌∷◌, ◌++◌, Ok, Err, Result, sym, refl, ap, ◌∙◌, subst, arith}
 use Rattle.refusals.specs.declared.Fault.{Fault}
 use Rattle.refusals.specs.declared.Refusal.TheVariants.{OutsideLimit, OutOfOrder}
-use Rattle.numbers.specs.Field.{and_then, field_at}
-use Rattle.numbers.specs.Grammar.{number, tested, within}
+use Rattle.lists.specs.declared.bounded.Bounded.{Bounded}
+use Rattle.lists.specs.declared.full.Full.{Full}
+use Rattle.lists.specs.Calls.{Appends}
+use Rattle.lists.specs.Held.{list_of}
 use Rattle.numbers.specs.Number.{Read}
-use Rattle.numbers.proofs.Field.{test_then, field_then, field_ok, field_err, limited_at, below_at, below_is}
+use Rattle.numbers.specs.declared.fields.Fields.{Fields}
+use Rattle.numbers.specs.Field.{Takes, and_then, number_in, rest_of, whole_of}
+use Rattle.numbers.specs.Grammar.{number, tested, ended, within}
+use Rattle.numbers.proofs.Field.{below_at, limited_at, field_takes, number_takes, takes_below}
+use Rattle.numbers.proofs.Grammar.{tested_true}
 use Rattle.squeeze.specs.declared.step.Step.{Step}
-use Rattle.squeeze.specs.Squeeze.{blank, begin, rest}
+use Rattle.squeeze.specs.Squeeze.{Squeeze}
+use Rattle.squeeze.specs.Reading.{TakesStep, TakesSteps, TakesTurns}
 use Rattle.squeeze.specs.Sheet.{turns_left, follows, settles, steps_left, squeeze_fields}
-use Rattle.squeeze.specs.Reading.{begin_at, Row, row_at}
-use Rattle.squeeze.specs.Valid.{rest-take}
-use Rattle.squeeze.proofs.Rule.{follows_is}
 
--- the last of the first n steps
-pub above_is : (ss : List Step) (n b : ℕ) → 1 ≤ n → n ≤ length ss → ltb (rest ss (n - 1)) b ≡ follows (take n ss) b
-above_is ss n b some few =
-    let m : length (take n ss) ≡ n = length-take-le n ss few in
-    sym
-    (follows_is (take n ss) b (omega (arith, m)) ∙ ap (λ (k : ℕ). ltb (rest (take n ss) (k - 1)) b) m
-    ∙ ap (λ (r : ℕ). ltb r b) (rest-take n ss (n - 1) (omega arith)))
+-- what is read is of the same sheet
+pub takes_whole : (reader : List ℕ → List ℕ → Result Read Fault) (before after : Fields) (r : Result ℕ Fault) → Takes reader before after r → whole_of after ≡ whole_of before
+takes_whole reader before after (Ok v) h = h.1
+takes_whole reader before after (Err e) h = ap (λ f. whole_of f) h.1
 
--- the first of the first n steps and one more
-pub first_is : (ss : List Step) (n : ℕ) (s : Step) → 1 ≤ n → n ≤ length ss → begin ss 0 ≡ begin (take n ss ++ (s ∷ [])) 0
-first_is ss n s some few =
-    let m : length (take n ss) ≡ n = length-take-le n ss few in
-    ap (λ (q : Step). q.begin) (sym (get_or_append_left (take n ss) (s ∷ []) blank 0 (omega (arith, m)) ∙ get_or-take n ss 0 blank (omega arith)))
+-- an item that had room is the last
+pub pushed : {T : Type 0} (x : T) (before after : Bounded T 32) (r : Result (Unit {0}) Full) (u : Unit {0}) → r ≡ Ok u → Appends (x ∷ []) before after r → list_of after ≡ list_of before ++ (x ∷ [])
+pushed x before after (Ok v) u e h = h.1
+pushed x before after (Err f) u e h = absurd (cc)
 
--- one after another
-join : {X Y Z : Type 0} (r : Result X Fault) (f : X → Result Y Fault) (go : Y → Result Z Fault) (f' : X → Result Z Fault) → ((x : X) → f' x ≡ and_then (f x) go) → and_then r f' ≡ and_then (and_then r f) go
-join (Ok x) f go f' h = h x
-join (Err e) f go f' h = refl
+-- the next of count turns, where i are read
+pub turn_takes : (whole : List ℕ) (end ticks : ℕ) (steps : List Step) (count i : ℕ) (read : List ℕ) (before after : Fields) (r : Result ℕ Fault) → i < count → end ≡ ticks → whole_of before ≡ whole → Takes (below_at end) before after r
+    → turns_left whole ticks steps (count - i) read (rest_of before) ≡ and_then r (λ v. turns_left whole ticks steps (count - (i + 1)) (read ++ (v ∷ [])) (rest_of after))
+turn_takes whole end ticks steps count i read before after r h is same t =
+    let one : count - i ≡ suc (count - (i + 1)) = omega arith in
+    ap (λ n. turns_left whole ticks steps n read (rest_of before)) one
+    ∙ field_takes (λ v. ltb v ticks) OutsideLimit whole before after r (λ v rest. turns_left whole ticks steps (count - (i + 1)) (read ++ (v ∷ [])) rest) same (takes_below end ticks before after r is t)
 
--- a beginning, and what follows it
-begin_then : {X : Type 0} (ticks : ℕ) (read : List Step) (whole bytes : List ℕ) (go : Read → Result X Fault) → number whole bytes (λ b after. tested (ltb b ticks) OutsideLimit whole bytes (tested (follows read b) OutOfOrder whole bytes (go (record { value = b; rest = after })))) ≡ and_then (begin_at ticks read whole bytes) go
-begin_then ticks read whole bytes go =
-    field_then (λ b. ltb b ticks) OutsideLimit whole bytes (λ b. tested (follows read b.value) OutOfOrder whole bytes (go b))
-    ∙ join (field_at (λ b. ltb b ticks) OutsideLimit whole bytes) _ _ _ (λ b. test_then (follows read b.value) OutOfOrder whole bytes b go)
+-- what comes after the rest s of a step that begins at b, and what comes after its beginning
+abbrev pub after_rest : List ℕ → ℕ → ℕ → ℕ → List Step → ℕ → List ℕ → ℕ → List ℕ → Result Squeeze Fault
+after_rest whole ticks k left read b here s rest =
+    tested (settles ticks left read b s) OutOfOrder whole here (steps_left whole ticks k left (read ++ (record { begin = b; rest = s } ∷ [])) rest)
 
--- a beginning that is no number below T
-pub begin_refused : (end ticks : ℕ) (read : List Step) (whole bytes : List ℕ) (f : Fault) → end ≡ ticks → below_at end whole bytes ≡ Err f → begin_at ticks read whole bytes ≡ Err f
-begin_refused end ticks read whole bytes f is h =
-    ap (λ (r : Result Read Fault). and_then r (λ b. tested (follows read b.value) OutOfOrder whole bytes (Ok b))) (below_is end ticks whole bytes (Err f) is h)
+abbrev pub after_begin : List ℕ → ℕ → ℕ → ℕ → List Step → List ℕ → ℕ → List ℕ → Result Squeeze Fault
+after_begin whole ticks k left read here b rest =
+    tested (follows read b) OutOfOrder whole here (number whole rest (after_rest whole ticks k left read b rest))
 
--- a step, and the steps after it
-pub row_then : (whole : List ℕ) (ticks k left : ℕ) (read : List Step) (bytes : List ℕ) → steps_left whole ticks k (suc left) read bytes ≡ and_then (row_at ticks left read whole bytes) (λ q. steps_left whole ticks k left (read ++ (q.step ∷ [])) q.after)
-row_then whole ticks k left read bytes =
-    begin_then ticks read whole bytes (λ b. number whole b.rest (λ s after. tested (settles ticks left read b.value s) OutOfOrder whole b.rest (steps_left whole ticks k left (read ++ (record { begin = b.value; rest = s } ∷ [])) after)))
-    ∙ join (begin_at ticks read whole bytes) _ _ _ (λ b.
-    field_then (settles ticks left read b.value) OutOfOrder whole b.rest (λ s. steps_left whole ticks k left (read ++ (record { begin = b.value; rest = s.value } ∷ [])) s.rest)
-    ∙ join (field_at (settles ticks left read b.value) OutOfOrder whole b.rest) (λ s. Ok (record { step = record { begin = b.value; rest = s.value }; after = s.rest })) _ _ (λ s. refl))
+pub begin_takes : (end ticks k left : ℕ) (read : List Step) (before after : Fields) (r : Result ℕ Fault) → end ≡ ticks → Takes (below_at end) before after r
+    → steps_left (whole_of before) ticks k (suc left) read (rest_of before) ≡ and_then r (λ b. after_begin (whole_of before) ticks k left read (rest_of before) b (rest_of after))
+begin_takes end ticks k left read before after r is t =
+    field_takes (λ b. ltb b ticks) OutsideLimit (whole_of before) before after r (after_begin (whole_of before) ticks k left read (rest_of before)) refl (takes_below end ticks before after r is t)
 
--- a turn, and the turns after it
-pub turn_then : (whole : List ℕ) (ticks : ℕ) (steps : List Step) (left : ℕ) (read bytes : List ℕ) → turns_left whole ticks steps (suc left) read bytes ≡ and_then (below_at ticks whole bytes) (λ n. turns_left whole ticks steps left (read ++ (n.value ∷ [])) n.rest)
-turn_then whole ticks steps left read bytes = field_then (λ r. ltb r ticks) OutsideLimit whole bytes (λ n. turns_left whole ticks steps left (read ++ (n.value ∷ [])) n.rest)
+pub rest_takes : (whole here : List ℕ) (ticks k left : ℕ) (read : List Step) (b : ℕ) (before after : Fields) (r : Result ℕ Fault) → follows read b ≡ true → whole_of before ≡ whole → Takes number_in before after r
+    → after_begin whole ticks k left read here b (rest_of before) ≡ and_then r (λ s. after_rest whole ticks k left read b (rest_of before) s (rest_of after))
+rest_takes whole here ticks k left read b before after r f same t =
+    tested_true (follows read b) OutOfOrder whole here _ f
+    ∙ number_takes whole before after r (after_rest whole ticks k left read b (rest_of before)) same t
 
--- the loop over the steps: one is read, or refused
-pub steps_turn : (whole : List ℕ) (ticks k count i : ℕ) (steps : List Step) (bytes : List ℕ) (q : Row) → i < count → i < length steps → row_at ticks (count - i - 1) (take i steps) whole bytes ≡ Ok q → steps_left whole ticks k (count - i) (take i steps) bytes ≡ steps_left whole ticks k (count - (i + 1)) (take (i + 1) (set steps i q.step)) q.after
-steps_turn whole ticks k count i steps bytes q h l e =
-    let one : count - i ≡ suc (count - i - 1) = omega arith in
-    let left : count - i - 1 ≡ count - (i + 1) = omega arith in
-    ap (λ (n : ℕ). steps_left whole ticks k n (take i steps) bytes) one
-    ∙ row_then whole ticks k (count - i - 1) (take i steps) bytes
-    ∙ ap (λ (r : Result Row Fault). and_then r (λ p. steps_left whole ticks k (count - i - 1) (take i steps ++ (p.step ∷ [])) p.after)) e
-    ∙ ap (λ (n : ℕ). steps_left whole ticks k n (take i steps ++ (q.step ∷ [])) q.after) left
-    ∙ ap (λ (ss : List Step). steps_left whole ticks k (count - (i + 1)) ss q.after) (sym (take_more_set steps i q.step l))
+-- the next step, where `left` come after it
+pub step_takes : (whole : List ℕ) (ticks left : ℕ) (n : ℕ) (now read : List Step) (before after : Fields) (r : Result Step Fault) → n ≡ suc left → now ≡ read → whole_of before ≡ whole → TakesStep ticks left now before after r
+    → (k : ℕ) → steps_left whole ticks k n read (rest_of before) ≡ and_then r (λ s. steps_left whole ticks k left (read ++ (s ∷ [])) (rest_of after))
+step_takes whole ticks left n now read before after r one is same t k =
+    ap (λ m. steps_left whole ticks k m read (rest_of before)) one
+    ∙ ap (λ ss. steps_left whole ticks k (suc left) ss (rest_of before)) (sym is)
+    ∙ ap (λ w. steps_left w ticks k (suc left) now (rest_of before)) (sym same)
+    ∙ t.goes_on k
+    ∙ ap (λ w. and_then r (λ s. steps_left w ticks k left (now ++ (s ∷ [])) (rest_of after))) same
+    ∙ ap (λ ss. and_then r (λ s. steps_left whole ticks k left (ss ++ (s ∷ [])) (rest_of after))) is
 
-pub steps_refused : (whole : List ℕ) (ticks k count i : ℕ) (steps : List Step) (bytes : List ℕ) (f : Fault) → i < count → row_at ticks (count - i - 1) (take i steps) whole bytes ≡ Err f → steps_left whole ticks k (count - i) (take i steps) bytes ≡ Err f
-steps_refused whole ticks k count i steps bytes f h e =
-    let one : count - i ≡ suc (count - i - 1) = omega arith in
-    ap (λ (n : ℕ). steps_left whole ticks k n (take i steps) bytes) one
-    ∙ row_then whole ticks k (count - i - 1) (take i steps) bytes
-    ∙ ap (λ (r : Result Row Fault). and_then r (λ p. steps_left whole ticks k (count - i - 1) (take i steps ++ (p.step ∷ [])) p.after)) e
+-- the turns after the steps, and the end after the turns
+pub steps_then : (whole : List ℕ) (ticks count : ℕ) (before after : Fields) (r : Result (Bounded Step 32) Fault) → whole_of before ≡ whole → TakesSteps ticks count before after r
+    → (k : ℕ) → steps_left whole ticks k count [] (rest_of before) ≡ and_then r (λ ss. turns_left whole ticks (list_of ss) k [] (rest_of after))
+steps_then whole ticks count before after r same t k =
+    subst (λ (w : List ℕ). steps_left w ticks k count [] (rest_of before) ≡ and_then r (λ ss. turns_left w ticks (list_of ss) k [] (rest_of after))) same (t.goes_on k)
 
--- the loop over the turns, likewise
-pub turns_turn : (whole : List ℕ) (end ticks : ℕ) (steps : List Step) (count i : ℕ) (turns bytes : List ℕ) (n : Read) → i < count → i < length turns → end ≡ ticks → below_at end whole bytes ≡ Ok n → turns_left whole ticks steps (count - i) (take i turns) bytes ≡ turns_left whole ticks steps (count - (i + 1)) (take (i + 1) (set turns i n.value)) n.rest
-turns_turn whole end ticks steps count i turns bytes n h l is e =
-    let one : count - i ≡ suc (count - i - 1) = omega arith in
-    let left : count - i - 1 ≡ count - (i + 1) = omega arith in
-    ap (λ (m : ℕ). turns_left whole ticks steps m (take i turns) bytes) one
-    ∙ turn_then whole ticks steps (count - i - 1) (take i turns) bytes
-    ∙ ap (λ (r : Result Read Fault). and_then r (λ p. turns_left whole ticks steps (count - i - 1) (take i turns ++ (p.value ∷ [])) p.rest)) (below_is end ticks whole bytes (Ok n) is e)
-    ∙ ap (λ (m : ℕ). turns_left whole ticks steps m (take i turns ++ (n.value ∷ [])) n.rest) left
-    ∙ ap (λ (rs : List ℕ). turns_left whole ticks steps (count - (i + 1)) rs n.rest) (sym (take_more_set turns i n.value l))
+pub turns_then : (whole : List ℕ) (ticks count : ℕ) (before after : Fields) (r : Result (Bounded ℕ 32) Fault) → whole_of before ≡ whole → TakesTurns ticks count before after r
+    → (steps : List Step) → turns_left whole ticks steps count [] (rest_of before) ≡ and_then r (λ rs. ended whole (rest_of after) (record { ticks = ticks; steps = steps; turns = list_of rs }))
+turns_then whole ticks count before after r same t steps =
+    subst (λ (w : List ℕ). turns_left w ticks steps count [] (rest_of before) ≡ and_then r (λ rs. ended w (rest_of after) (record { ticks = ticks; steps = steps; turns = list_of rs }))) same (t.goes_on steps)
 
-pub turns_refused : (whole : List ℕ) (end ticks : ℕ) (steps : List Step) (count i : ℕ) (turns bytes : List ℕ) (f : Fault) → i < count → end ≡ ticks → below_at end whole bytes ≡ Err f → turns_left whole ticks steps (count - i) (take i turns) bytes ≡ Err f
-turns_refused whole end ticks steps count i turns bytes f h is e =
-    let one : count - i ≡ suc (count - i - 1) = omega arith in
-    ap (λ (m : ℕ). turns_left whole ticks steps m (take i turns) bytes) one
-    ∙ turn_then whole ticks steps (count - i - 1) (take i turns) bytes
-    ∙ ap (λ (r : Result Read Fault). and_then r (λ p. turns_left whole ticks steps (count - i - 1) (take i turns ++ (p.value ∷ [])) p.rest)) (below_is end ticks whole bytes (Err f) is e)
+ended_by : (whole rest : List ℕ) (t : Squeeze) → ended whole rest t ≡ and_then (ended whole rest (tt {0})) (λ u. Ok t)
+ended_by whole [] t = refl
+ended_by whole (b ∷ rest) t = refl
+
+pub ended_then : (whole : List ℕ) (at : Fields) (t : Squeeze) (r : Result (Unit {0}) Fault) → whole_of at ≡ whole → r ≡ ended (whole_of at) (rest_of at) (tt {0}) → ended whole (rest_of at) t ≡ and_then r (λ u. Ok t)
+ended_then whole at t r same is =
+    ap (λ w. ended w (rest_of at) t) (sym same) ∙ ended_by (whole_of at) (rest_of at) t ∙ ap (λ q. and_then q (λ u. Ok t)) (sym is)
 
 -- the three numbers in front of the steps
-pub ticks_err : (whole bytes : List ℕ) (f : Fault) → limited_at 2 36000 whole bytes ≡ Err f → squeeze_fields whole bytes ≡ Err f
-ticks_err whole bytes f h = field_err (within 2 36000) OutsideLimit whole bytes _ f h
+abbrev pub after_step_count : List ℕ → ℕ → ℕ → List ℕ → Result Squeeze Fault
+after_step_count whole ticks m rest = number whole rest (λ k r. tested (within 1 32 k) OutsideLimit whole rest (steps_left whole ticks k m [] r))
 
-pub steps_err : (whole bytes : List ℕ) (t : Read) (f : Fault) → limited_at 2 36000 whole bytes ≡ Ok t → limited_at 1 32 whole t.rest ≡ Err f → squeeze_fields whole bytes ≡ Err f
-steps_err whole bytes t f h h₁ = field_ok (within 2 36000) OutsideLimit whole bytes _ t h ∙ field_err (within 1 32) OutsideLimit whole t.rest _ f h₁
+abbrev pub after_ticks : List ℕ → ℕ → List ℕ → Result Squeeze Fault
+after_ticks whole ticks rest = number whole rest (λ m r. tested (within 1 32 m) OutsideLimit whole rest (after_step_count whole ticks m r))
 
-pub turns_err : (whole bytes : List ℕ) (t m : Read) (f : Fault) → limited_at 2 36000 whole bytes ≡ Ok t → limited_at 1 32 whole t.rest ≡ Ok m → limited_at 1 32 whole m.rest ≡ Err f → squeeze_fields whole bytes ≡ Err f
-turns_err whole bytes t m f h h₁ h₂ =
-    field_ok (within 2 36000) OutsideLimit whole bytes _ t h ∙ field_ok (within 1 32) OutsideLimit whole t.rest _ m h₁
-    ∙ field_err (within 1 32) OutsideLimit whole m.rest _ f h₂
+module _ (before : Fields) where
+  abbrev whole : List ℕ
+  whole = whole_of before
 
-pub heads_ok : (whole bytes : List ℕ) (t m k : Read) → limited_at 2 36000 whole bytes ≡ Ok t → limited_at 1 32 whole t.rest ≡ Ok m → limited_at 1 32 whole m.rest ≡ Ok k → squeeze_fields whole bytes ≡ steps_left whole t.value k.value m.value [] k.rest
-heads_ok whole bytes t m k h h₁ h₂ =
-    field_ok (within 2 36000) OutsideLimit whole bytes _ t h ∙ field_ok (within 1 32) OutsideLimit whole t.rest _ m h₁
-    ∙ field_ok (within 1 32) OutsideLimit whole m.rest _ k h₂
+  pub ticks_then : (after : Fields) (r : Result ℕ Fault) → Takes (limited_at 2 36000) before after r → squeeze_fields whole (rest_of before) ≡ and_then r (λ t. after_ticks whole t (rest_of after))
+  ticks_then after r h = field_takes (within 2 36000) OutsideLimit whole before after r (after_ticks whole) refl h
+
+  pub step_count_then : (at after : Fields) (t : ℕ) (r : Result ℕ Fault) → Takes (limited_at 2 36000) before at (Ok t) → Takes (limited_at 1 32) at after r → squeeze_fields whole (rest_of before) ≡ and_then r (λ m. after_step_count whole t m (rest_of after))
+  step_count_then at after t r h₁ h₂ = ticks_then at (Ok t) h₁ ∙ field_takes (within 1 32) OutsideLimit whole at after r (after_step_count whole t) h₁.1 h₂
+
+  pub turn_count_then : (at by after : Fields) (t m : ℕ) (r : Result ℕ Fault) → Takes (limited_at 2 36000) before at (Ok t) → Takes (limited_at 1 32) at by (Ok m) → Takes (limited_at 1 32) by after r → squeeze_fields whole (rest_of before) ≡ and_then r (λ k. steps_left whole t k m [] (rest_of after))
+  turn_count_then at by after t m r h₁ h₂ h₃ =
+      step_count_then at by t (Ok m) h₁ h₂ ∙ field_takes (within 1 32) OutsideLimit whole by after r (λ k rest. steps_left whole t k m [] rest) (h₂.1 ∙ h₁.1) h₃

@@ -1,11 +1,18 @@
 -- The rule of the steps, one step at a time: what the tests of the sheet say of the steps read.
-use Rattle.std.proofs.Common.{◌≡◌, ℕ, suc, ◌+◌, ◌-◌, ◌<◌, ◌≤◌, true, false, eqb, ltb, leb, List, [], ◌∷◌, ◌++◌, length, sym, refl, ap, ◌∙◌, inl, inr, arith}
+use Rattle.std.proofs.Common.{◌≡◌, ℕ, zero, suc, ◌+◌, ◌-◌, ◌<◌, ◌≤◌, true, false, eqb, ltb, leb, List, [], ◌∷◌, ◌++◌, length, Some, None, sym, refl, ap, ◌∙◌, inl, inr, arith}
 use borrow.Author.Tests.{clash}
 use Rattle.std.proofs.lemmas.List.{get_or_append_left, get_or_push, length_push}
+use Rattle.std.proofs.lemmas.Option.{get_or_from_slice_get, slice_get-get_or, slice_get_within}
+use Rattle.std.specs.List.{slice_get}
 use Rattle.std.proofs.lemmas.Bool.{cases_Bool, cases_lt, cases_eq, cond-true, cond-false, leb-true, ltb-true, le-leb, lt-ltb, eq-eqb, ne_eqb}
 use Rattle.squeeze.specs.declared.step.Step.{Step}
 use Rattle.squeeze.specs.Squeeze.{blank, begin, rest}
 use Rattle.squeeze.specs.Sheet.{follows, settles}
+
+-- what holds of 0 and of each number above it
+pub one_more : (P : ℕ → Type 0) → P 0 → ((k : ℕ) → P (suc k)) → (k : ℕ) → P k
+one_more P z s zero = z
+one_more P z s (suc k) = s k
 
 -- the steps follow one another, each begins below T
 pub record Steps (ticks : ℕ) (ss : List Step) : Type 0 where
@@ -24,6 +31,15 @@ follows_is (s ∷ []) b h = refl
 follows_is (s ∷ (s₁ ∷ ss)) b h =
     let e : suc (length (s₁ ∷ ss)) - 1 ≡ suc (length (s₁ ∷ ss) - 1) = omega arith in
     follows_is (s₁ ∷ ss) b (omega arith) ∙ ap (λ (k : ℕ). ltb (rest (s ∷ (s₁ ∷ ss)) k) b) (sym e)
+
+pub follows_none : (ss : List Step) (b : ℕ) → slice_get ss (length ss - 1) ≡ None → follows ss b ≡ true
+follows_none [] b h = refl
+follows_none (s ∷ ss) b h = let some = slice_get-get_or (s ∷ ss) (length (s ∷ ss) - 1) blank (omega arith) in absurd (cc)
+
+pub follows_last : (ss : List Step) (b : ℕ) (s : Step) → slice_get ss (length ss - 1) ≡ Some s → follows ss b ≡ ltb s.rest b
+follows_last ss b s h =
+    let in_list = slice_get_within ss (length ss - 1) s h in
+    follows_is ss b (omega arith) ∙ ap (λ (q : Step). ltb q.rest b) (get_or_from_slice_get ss (length ss - 1) s blank h)
 
 pub follows_true : (ss : List Step) (b : ℕ) → (1 ≤ length ss → rest ss (length ss - 1) < b) → follows ss b ≡ true
 follows_true [] b h = refl

@@ -11,7 +11,7 @@ use Rattle.numbers.proofs.Grammar.{tested_true, tested_only, ended_only, kinded_
 use Rattle.squeeze.specs.declared.step.Step.{Step}
 use Rattle.squeeze.specs.Squeeze.{Squeeze, Keeps, blank, begin, rest}
 use Rattle.squeeze.specs.Sheet.{spell_steps, spell_turns, spell_squeeze, turns_left, follows, settles, steps_left, squeeze_fields, squeeze_sheet}
-use Rattle.squeeze.proofs.Rule.{Steps, Closed, follows_true, settles_true, settles_only, steps-none, steps_more, closed_more, rest_low}
+use Rattle.squeeze.proofs.Rule.{one_more, Steps, Closed, follows_true, settles_true, settles_only, steps-none, steps_more, closed_more, rest_low}
 
 -- each turn is below T
 abbrev Below : ℕ → List ℕ → Type 0
@@ -31,10 +31,6 @@ record Turns (ticks : ℕ) (steps : List Step) (left : ℕ) (read rest : List �
   pub below : Below ticks rs
   pub spelled : rest ≡ spell_turns rs
   pub held : t ≡ record { ticks = ticks; steps = steps; turns = read ++ rs }
-
-one_more : (P : ℕ → Type 0) → P 0 → ((k : ℕ) → P (suc k)) → (k : ℕ) → P k
-one_more P z s zero = z
-one_more P z s (suc k) = s k
 
 turns_only : (whole : List ℕ) (ticks : ℕ) (steps : List Step) (left : ℕ) (read rest : List ℕ) (t : Squeeze) → turns_left whole ticks steps left read rest ≡ Ok t → (rs : List ℕ) × Turns ticks steps left read rest t rs
 turns_only whole ticks steps zero read rest t h =
@@ -198,8 +194,7 @@ fields_only whole fields t h =
     } in
     let e : fields ≡ spell_fields (record { ticks = n.0; steps = s.0; turns = s.1 }) =
     fields_joined n.0 n₁.0 n₂.0 fields n.1 n₁.1 n₂.1 s.0 s.1 n.3 n₁.3 n₂.3 r.count r.turn_count r.spelled in
-    let P : Squeeze → Type 0 = λ q. Keeps q × (fields ≡ spell_fields q) in
-    subst P (sym r.held) (K, e)
+    rw r.held (K, e)
 
 sheet_only : (sheet : List ℕ) (t : Squeeze) → squeeze_sheet sheet ≡ Ok t → Keeps t × (sheet ≡ spell_squeeze t)
 sheet_only sheet t h =

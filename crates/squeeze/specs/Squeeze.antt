@@ -1,6 +1,7 @@
 -- A squeeze table: the half turn has T ticks, cut into steps. Step i begins at b(i) and rests at s(i).
 -- A turn by some ticks and a squeeze bring a part from the rest of one step into the step where the turn lands.
 use Rattle.std.specs.Prelude.{◌≡◌, ℕ, suc, ◌+◌, ◌-◌, ◌%◌, ◌<◌, ◌≤◌, cond, ◌⊎◌, List, [], ◌∷◌, length, nat_le, slice_index, slice_index_or}
+use Rattle.std.specs.Coded.{le_prop}
 use Rattle.feeders.specs.Motion.{Motion}
 use Rattle.squeeze.specs.declared.step.Step.{Step}
 
@@ -32,6 +33,22 @@ pub record Keeps (t : Squeeze) : Type 0 where
   pub rises : (i : ℕ) → suc i < length t.steps → rest t.steps i < begin t.steps (suc i)
   pub last : rest t.steps (length t.steps - 1) < t.ticks + begin t.steps 0
   pub turns : (j : ℕ) → j < length t.turns → slice_index t.turns j < t.ticks
+
+-- a table keeps the rule in one way
+pub keeps-once : (t : Squeeze) → IsProp (Keeps t)
+keeps-once t p q = λ i. record {
+  some_ticks = le_prop p.some_ticks q.some_ticks i;
+  few_ticks = le_prop p.few_ticks q.few_ticks i;
+  some_step = le_prop p.some_step q.some_step i;
+  few_steps = le_prop p.few_steps q.few_steps i;
+  some_turn = le_prop p.some_turn q.some_turn i;
+  few_turns = le_prop p.few_turns q.few_turns i;
+  begins = λ j h. le_prop (p.begins j h) (q.begins j h) i;
+  rests = λ j h. le_prop (p.rests j h) (q.rests j h) i;
+  rises = λ j h. le_prop (p.rises j h) (q.rises j h) i;
+  last = le_prop p.last q.last i;
+  turns = λ j h. le_prop (p.turns j h) (q.turns j h) i;
+}
 
 -- Angle x belongs to step i: it has the greatest beginning that is not above x; below the first beginning it is the last step.
 -- So an angle on the very edge of a step belongs to the step that begins there.

@@ -1,12 +1,11 @@
 -- Every squeeze table keeps the rule, and the motion of whatever keeps the rule is that of a feeder.
-use Rattle.std.specs.Prelude.{◌≡◌, ℕ, suc, ◌+◌, ◌-◌, ◌%◌, ◌<◌, ◌≤◌, cond, List, [], ◌∷◌, length, take, nat_le, slice_index}
-use Rattle.std.proofs.Common.{arith, ◌∙◌, ap}
-use Rattle.std.proofs.lemmas.List.{get_or-take, length-take-le}
+use Rattle.std.specs.Prelude.{ℕ, suc, ◌+◌, ◌-◌, ◌%◌, ◌<◌, ◌≤◌, cond, List, [], ◌∷◌, length, nat_le, slice_index}
+use Rattle.std.proofs.Common.{arith}
 use Rattle.std.proofs.lemmas.Bool.{cond_both}
 use Rattle.feeders.specs.Motion.{Valid}
 use Rattle.squeeze.specs.declared.step.Step.{Step}
 use Rattle.squeeze.specs.declared.table.SqueezeTable.{SqueezeTable}
-use Rattle.squeeze.specs.Squeeze.{Squeeze, Keeps, blank, begin, rest, last_not_above, step_of, squeeze_motion}
+use Rattle.squeeze.specs.Squeeze.{Squeeze, Keeps, rest, last_not_above, step_of, squeeze_motion}
 use Rattle.squeeze.specs.Held.{squeeze_of}
 
 -- a step that is found is one of those looked at, or the one given for none
@@ -27,32 +26,5 @@ squeeze_valid t k = record {
   stays = λ p a _ _. step_within t.steps ((rest t.steps p + slice_index t.turns a) % t.ticks) k.some_step;
 }
 
--- the steps in front are those of the whole
-pub begin-take : (n : ℕ) (ss : List Step) (i : ℕ) → i < n → begin (take n ss) i ≡ begin ss i
-begin-take n ss i h = ap (λ (s : Step). s.begin) (get_or-take n ss i blank h)
-
-pub rest-take : (n : ℕ) (ss : List Step) (i : ℕ) → i < n → rest (take n ss) i ≡ rest ss i
-rest-take n ss i h = ap (λ (s : Step). s.rest) (get_or-take n ss i blank h)
-
 pub keeps : (t : SqueezeTable) → Keeps (squeeze_of t)
-keeps t =
-    let n : ℕ = t.step_count in
-    let m : length (take t.step_count t.steps) ≡ t.step_count = length-take-le t.step_count t.steps (omega arith) in
-    let k : length (take t.turn_count t.turns) ≡ t.turn_count = length-take-le t.turn_count t.turns (omega arith) in
-    let b : (i : ℕ) → i < t.step_count → begin (take t.step_count t.steps) i ≡ begin t.steps i = begin-take t.step_count t.steps in
-    let s : (i : ℕ) → i < t.step_count → rest (take t.step_count t.steps) i ≡ rest t.steps i = rest-take t.step_count t.steps in
-    let at : rest (take t.step_count t.steps) (length (take t.step_count t.steps) - 1) ≡ rest t.steps (t.step_count - 1) =
-    ap (λ (i : ℕ). rest (take t.step_count t.steps) (i - 1)) m ∙ s (t.step_count - 1) (omega arith) in
-    record {
-      some_ticks = t.some_ticks;
-      few_ticks = t.few_ticks;
-      some_step = omega (arith, m);
-      few_steps = omega (arith, m);
-      some_turn = omega (arith, k);
-      few_turns = omega (arith, k);
-      begins = λ i h. omega (arith, m, b i (omega (arith, m)), t.begins i (omega (arith, m)));
-      rests = λ i h. omega (arith, m, b i (omega (arith, m)), s i (omega (arith, m)), t.rests i (omega (arith, m)));
-      rises = λ i h. omega (arith, m, b (suc i) (omega (arith, m)), s i (omega (arith, m)), t.rises i (omega (arith, m)));
-      last = omega (arith, at, b 0 (omega arith), t.last);
-      turns = λ j h. omega (arith, k, get_or-take t.turn_count t.turns j 0 (omega (arith, k)), t.turn j (omega (arith, k)));
-    }
+keeps t = t.keeps

@@ -9,5 +9,6 @@ mod table;
 #[cfg(test)]
 mod tests;
 
+pub use filling::KIND;
 pub use step::Step;
 pub use table::SqueezeTable;

@@ -17,13 +17,9 @@ impl SqueezeTable {
         ensures only { (x i j : ℕ) → StepOf (squeeze_of self.now).steps x i → StepOf (squeeze_of self.now).steps x j → i ≡ j }
     {
         let x = angle % self.ticks;
-        let mut found = self.step_count - 1;
-        for i in 0..self.step_count {
-            if self.steps[i as usize].begin <= x {
-                found = i;
-            }
-        }
-        found
+        let steps = self.steps.as_slice();
+        let begun = steps.partition_point(|step| step.begin <= x);
+        begun.checked_sub(1).unwrap_or(steps.len() - 1) as u32
     }
 }
 
@@ -33,20 +29,16 @@ impl Feeder for SqueezeTable {
     ghost valid = { λ t. squeeze_valid (squeeze_of t) (keeps t) };
 
     fn poses(&self) -> u32 {
-        self.step_count
+        self.steps.len() as u32
     }
 
     fn actions(&self) -> u32 {
-        self.turn_count
+        self.turns.len() as u32
     }
 
     fn follow(&self, pose: u32, action: u32) -> Result<u32, Refusal> {
-        if pose >= self.step_count {
-            return Err(Refusal::NoPose);
-        }
-        if action >= self.turn_count {
-            return Err(Refusal::NoAction);
-        }
-        Ok(self.step_of(self.steps[pose as usize].rest + self.turns[action as usize]))
+        let step = self.steps.get(pose as usize).ok_or(Refusal::NoPose)?;
+        let turn = self.turns.get(action as usize).ok_or(Refusal::NoAction)?;
+        Ok(self.step_of(step.rest + turn))
     }
 }

@@ -21,7 +21,7 @@ good_spelled : (read : List Bool) (x : Bool) (cs : List Bool) → frees (read ++
 good_spelled read true cs h = lt-ltb (frees read) 32 (omega (arith, frees-append read (true ∷ cs), h))
 good_spelled read false cs h = refl
 
-cell_spelled : (x : Bool) → eqb (spell_cell x) 0x2e ≡ x
+pub cell_spelled : (x : Bool) → eqb (spell_cell x) 0x2e ≡ x
 cell_spelled true = refl
 cell_spelled false = refl
 

@@ -1,5 +1,6 @@
 pub mod Relation
 pub mod Counting
-pub mod Steps
+pub mod Passing
+pub mod Moving
 pub mod Format
 pub mod Cellwise

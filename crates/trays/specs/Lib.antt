@@ -4,6 +4,7 @@ pub mod Cells
 pub mod Sliding
 pub mod Tilting
 pub mod Directions
+pub mod Cell
 pub mod Held
 pub mod Valid
 pub mod Reads

@@ -1,6 +1,8 @@
 // The four ways to tilt a tray.
-ghost use Rattle.std.specs.Prelude.{◌≡◌, ◌≤◌, MatchOption};
-ghost use Rattle.trays.specs.Directions.{tilt_of};
+ghost use Rattle.std.specs.Prelude.{◌≡◌};
+ghost use Rattle.trays.specs.Directions.{Tilting, tilt_of};
+
+use refusals::Refusal;
 
 // The discriminant is the number of the action.
 #[derive(Clone, Copy, PartialEq, Eq, Debug)]
@@ -11,24 +13,28 @@ pub enum Direction {
     West = 3,
 }
 
-impl Direction {
-    // The action that tilts that way.
-    pub fn action(self) -> u32
-        ensures { result ≡ tilt_of self }
-    {
-        self as u32
-    }
+// The action that tilts that way.
+impl From<Direction> for u32 {
+    ghost from_gives = { λ direction action. action ≡ tilt_of direction };
 
-    // The direction of an action.
-    pub(crate) fn of(action: u32) -> Option<Direction>
-        ensures { MatchOption result (4 ≤ action) (λ d. tilt_of d ≡ action) }
-    {
+    fn from(direction: Direction) -> u32 {
+        direction as u32
+    }
+}
+
+// The direction of an action; refuses an absent action.
+impl TryFrom<u32> for Direction {
+    type Error = Refusal;
+
+    ghost try_from_gives = { Tilting };
+
+    fn try_from(action: u32) -> Result<Direction, Refusal> {
         match action {
-            0 => Some(Direction::North),
-            1 => Some(Direction::East),
-            2 => Some(Direction::South),
-            3 => Some(Direction::West),
-            _ => None,
+            0 => Ok(Direction::North),
+            1 => Ok(Direction::East),
+            2 => Ok(Direction::South),
+            3 => Ok(Direction::West),
+            _ => Err(Refusal::NoAction),
         }
     }
 }

@@ -25,12 +25,10 @@ impl Feeder for Tray {
     }
 
     fn follow(&self, pose: u32, action: u32) -> Result<u32, Refusal> {
+        // Tested here too: an absent pose is refused before an absent action.
         if pose >= self.poses() {
             return Err(Refusal::NoPose);
         }
-        match Direction::of(action) {
-            Some(direction) => self.tilt(pose, direction),
-            None => Err(Refusal::NoAction),
-        }
+        self.tilt(pose, Direction::try_from(action)?)
     }
 }

@@ -1,18 +1,18 @@
 // Filling a tray from its sheet.
 ghost use Rattle.std.specs.Prelude.{◌≡◌, true, [], ◌∷◌};
+ghost use Rattle.numbers.specs.Field.{rest_of, whole_of};
 ghost use Rattle.numbers.specs.Format.{OneSheet};
 ghost use Rattle.refusals.specs.Outcomes.{Leaves};
 ghost use Rattle.trays.specs.Held.{grid_of};
 ghost use Rattle.trays.specs.Sheet.{spell_tray, tray_fields, tray_sheet};
 ghost use Rattle.trays.specs.Tray.{Keeps};
 
-use crate::reading::read_fields;
 use crate::tray::Tray;
-use numbers::{cut_short, fault_at};
-use refusals::{Fault, Refusal};
+use numbers::Fields;
+use refusals::Fault;
 
 // The kind byte of a tray's sheet.
-const KIND: u8 = 2;
+pub const KIND: u8 = 2;
 
 impl Tray {
     // The smallest tray: one free cell.
@@ -32,23 +32,14 @@ impl Tray {
         ensures reads { Leaves grid_of (tray_sheet sheet.now) self.old self.new result }
         ensures format { OneSheet Keeps spell_tray tray_sheet }
     {
-        match sheet {
-            [KIND, fields @ ..] => self.fill_fields(sheet, fields),
-            [] => Err(cut_short(sheet)),
-            _ => Err(fault_at(Refusal::WrongKind, sheet, sheet)),
-        }
+        self.fill_fields(Fields::of_kind(sheet, KIND)?)
     }
 
-    // The same from the fields behind the kind byte, which are the end of the sheet.
-    pub fn fill_fields(&mut self, sheet: &[u8], fields: &[u8]) -> Result<(), Fault>
-        ensures { Leaves grid_of (tray_fields sheet.now fields.now) self.old self.new result }
+    // The same from the fields behind the kind byte.
+    pub fn fill_fields(&mut self, fields: Fields) -> Result<(), Fault>
+        ensures { Leaves grid_of (tray_fields (whole_of fields.entry) (rest_of fields.entry)) self.old self.new result }
     {
-        match read_fields(sheet, fields) {
-            Ok(tray) => {
-                *self = tray;
-                Ok(())
-            }
-            Err(fault) => Err(fault),
-        }
+        *self = Tray::read(fields)?;
+        Ok(())
     }
 }

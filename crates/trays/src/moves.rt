@@ -1,11 +1,13 @@
 // Tilting a tray: where a pose goes.
-ghost use Rattle.std.specs.Prelude.{◌≡◌, ℕ, ◌*◌, ◌<◌, ◌≤◌, true, MatchResult};
+ghost use Rattle.std.specs.Prelude.{◌≡◌, ℕ, ◌/◌, ◌%◌, ◌≤◌, true, MatchOption, MatchResult};
 ghost use Rattle.feeders.specs.Motion.{follows};
 ghost use Rattle.refusals.specs.declared.Refusal.TheVariants.{NoPose};
+ghost use Rattle.trays.specs.Cell.{HasPose, IsFreeAhead, IsInside, SlidesTo, index_of};
 ghost use Rattle.trays.specs.Directions.{tilt_of};
 ghost use Rattle.trays.specs.Held.{grid_of};
-ghost use Rattle.trays.specs.Tray.{free, free_ahead, ahead, slid, cell_of, pose_at, tray_motion, Tilts};
+ghost use Rattle.trays.specs.Tray.{free, pose_at, tray_motion, Tilts};
 
+use crate::cell::Cell;
 use crate::direction::Direction;
 use crate::tray::Tray;
 use refusals::Refusal;
@@ -20,102 +22,74 @@ impl Tray {
         ensures moves { result ≡ follows (tray_motion (grid_of self.now)) pose (tilt_of direction) }
         ensures only { (p q q₁ : ℕ) → Tilts (grid_of self.now) (tilt_of direction) p q → Tilts (grid_of self.now) (tilt_of direction) p q₁ → q ≡ q₁ }
     {
-        if pose >= self.free {
-            return Err(Refusal::NoPose);
-        }
-        Ok(self.moved(pose, direction))
+        let start = self.cell_of(pose).ok_or(Refusal::NoPose)?;
+        Ok(self.pose_at(self.slide(start, direction)))
     }
 
-    // Where the tilt brings a pose that the tray has.
-    fn moved(&self, pose: u32, direction: Direction) -> u32
-        requires { pose < self.now.free }
-        ensures { result ≡ (tray_motion (grid_of self.now)).next pose (tilt_of direction) }
+    // The cell of a pose: the free cell that `pose` free cells precede; none if the tray has no such pose.
+    fn cell_of(&self, pose: u32) -> Option<Cell>
+        ensures { MatchOption result (self.now.free ≤ pose) (λ cell. HasPose (grid_of self.now) cell pose) }
     {
-        let cell = self.cell_of(pose);
-        let row = cell / self.columns;
-        let column = cell % self.columns;
-        let far = self.slide(direction, row, column);
-        self.pose_at(self.cell_ahead(direction, row, column, far))
+        let cells = &self.cells[..(self.rows * self.columns) as usize];
+        cells
+            .iter()
+            .enumerate()
+            .filter(|(_, free)| **free)
+            .nth(pose as usize)
+            .map(|(index, _)| self.cell_at(index as u32))
     }
 
-    // The index of the free cell that `pose` free cells precede.
-    fn cell_of(&self, pose: u32) -> u32
-        requires { pose < self.now.free }
-        ensures { result ≡ cell_of (grid_of self.now).cells pose }
+    // The pose at a cell: how many free cells precede it.
+    fn pose_at(&self, cell: Cell) -> u32
+        requires { IsInside (grid_of self.now) cell }
+        ensures { result ≡ pose_at (grid_of self.now).cells (index_of (grid_of self.now) cell) }
     {
-        let mut seen = 0;
-        for cell in 0..self.rows * self.columns {
-            if self.cells[cell as usize] {
-                if seen == pose {
-                    return cell;
-                }
-                seen += 1;
-            }
-        }
-        // Not reached: a pose that the tray has is found above.
-        0
+        let before = &self.cells[..self.index_of(cell)];
+        before.iter().filter(|free| **free).count() as u32
     }
 
-    // How many free cells precede a cell.
-    fn pose_at(&self, cell: u32) -> u32
-        requires { cell < self.now.rows * self.now.columns }
-        ensures { result ≡ pose_at (grid_of self.now).cells cell }
+    // The cell where a part that slides from there stops: before a wall or the rim.
+    fn slide(&self, start: Cell, direction: Direction) -> Cell
+        requires { free (grid_of self.now) start.row start.column ≡ true }
+        ensures { SlidesTo (grid_of self.now) (tilt_of direction) start result }
     {
-        let mut seen = 0;
-        for i in 0..cell {
-            if self.cells[i as usize] {
-                seen += 1;
-            }
-        }
-        seen
+        (1..=LONGEST)
+            .map_while(|far| self.free_ahead(start, direction, far))
+            .last()
+            .unwrap_or(start)
     }
 
-    // How many cells a part slides from there: up to a wall or the rim.
-    fn slide(&self, direction: Direction, row: u32, column: u32) -> u32
-        requires { (row < 16) × (column < 16) }
-        ensures { result ≡ slid (grid_of self.now) (tilt_of direction) row column 16 0 }
+    // The cell that is `far` cells on, if the tray has it and it is free.
+    fn free_ahead(&self, start: Cell, direction: Direction, far: u32) -> Option<Cell>
+        ensures { IsFreeAhead (grid_of self.now) (tilt_of direction) start far result }
     {
-        for far in 0..LONGEST {
-            if !self.free_ahead(direction, row, column, far + 1) {
-                return far;
-            }
-        }
-        LONGEST
-    }
-
-    // The index of the free cell that is `far` cells on.
-    fn cell_ahead(&self, direction: Direction, row: u32, column: u32, far: u32) -> u32
-        requires { free_ahead (grid_of self.now) (tilt_of direction) row column far ≡ true }
-        ensures { result ≡ ahead (grid_of self.now) (tilt_of direction) row column far }
-    {
-        match direction {
-            Direction::North => (row - far) * self.columns + column,
-            Direction::East => row * self.columns + (column + far),
-            Direction::South => (row + far) * self.columns + column,
-            Direction::West => row * self.columns + (column - far),
-        }
-    }
-
-    // Whether the tray has the cell that is `far` cells on, and it is free.
-    fn free_ahead(&self, direction: Direction, row: u32, column: u32, far: u32) -> bool
-        requires { (row < 16) × ((column < 16) × (far ≤ 16)) }
-        ensures { result ≡ free_ahead (grid_of self.now) (tilt_of direction) row column far }
-    {
-        match direction {
-            Direction::North => far <= row && self.is_free(row - far, column),
-            Direction::East => self.is_free(row, column + far),
-            Direction::South => self.is_free(row + far, column),
-            Direction::West => far <= column && self.is_free(row, column - far),
-        }
+        start
+            .ahead(direction, far)
+            .filter(|cell| self.is_free(*cell))
     }
 
     // Whether the tray has that cell, and it is free.
-    fn is_free(&self, row: u32, column: u32) -> bool
-        ensures { result ≡ free (grid_of self.now) row column }
+    fn is_free(&self, cell: Cell) -> bool
+        ensures { result ≡ free (grid_of self.now) cell.row cell.column }
     {
-        if row >= self.rows || column >= self.columns {
-            return false;
+        cell.row < self.rows && cell.column < self.columns && self.cells[self.index_of(cell)]
+    }
+
+    // The cell that stands at an index of the array.
+    fn cell_at(&self, index: u32) -> Cell
+        ensures { result ≡ record { row = index / self.now.columns; column = index % self.now.columns } }
+    {
+        Cell {
+            row: index / self.columns,
+            column: index % self.columns,
         }
-        self.cells[(row * self.columns + column) as usize]
+    }
+
+    // Where a cell of the tray stands in the array.
+    fn index_of(&self, cell: Cell) -> usize
+        requires { IsInside (grid_of self.now) cell }
+        ensures { result ≡ index_of (grid_of self.now) cell }
+    {
+        (cell.row * self.columns + cell.column) as usize
     }
 }

@@ -1,12 +1,13 @@
 // Reading a tray from the fields of its sheet. Nothing is written before all is read.
-ghost use Rattle.std.specs.Prelude.{◌*◌, ◌≤◌, []};
+ghost use Rattle.std.specs.Prelude.{◌≡◌, ◌*◌, ◌≤◌, []};
+ghost use Rattle.numbers.specs.Field.{rest_of, whole_of};
 ghost use Rattle.refusals.specs.Outcomes.{Gives};
 ghost use Rattle.trays.specs.Held.{grid_of};
-ghost use Rattle.trays.specs.Reads.{Cell};
+ghost use Rattle.trays.specs.Reads.{TakesCell};
 ghost use Rattle.trays.specs.Sheet.{cells_left, tray_fields};
 
 use crate::tray::Tray;
-use numbers::{cut_short, fault_at, limited};
+use numbers::Fields;
 use refusals::{Fault, Refusal};
 
 // The most rows, and the most columns.
@@ -21,44 +22,32 @@ const FREE: u8 = 0x2E;
 // The byte of a wall, a hash.
 const WALL: u8 = 0x23;
 
-// Whether the cell of a byte is free, where `free` cells are free before it; none if the byte is bad there.
-fn read_cell(byte: u8, free: u32) -> Option<bool>
-    ensures { Cell free byte result }
-{
-    match byte {
-        FREE if free < MOST_FREE => Some(true),
-        WALL => Some(false),
-        _ => None,
+impl Tray {
+    // The tray that a sheet's fields describe.
+    pub fn read(mut fields: Fields) -> Result<Tray, Fault>
+        ensures { Gives grid_of (tray_fields (whole_of fields.entry) (rest_of fields.entry)) result }
+    {
+        let rows = fields.limited(1, LONGEST_SIDE)?;
+        let columns = fields.limited(1, LONGEST_SIDE)?;
+        read_cells(fields, rows, columns)
     }
 }
 
-// The tray of so many rows and columns whose cells stand in `bytes`.
-fn read_cells(sheet: &[u8], bytes: &[u8], rows: u32, columns: u32) -> Result<Tray, Fault>
+// The tray of so many rows and columns whose cells are the fields that are left.
+fn read_cells(mut fields: Fields, rows: u32, columns: u32) -> Result<Tray, Fault>
     requires { (1 ≤ rows) × ((rows ≤ 16) × ((1 ≤ columns) × (columns ≤ 16))) }
-    ensures { Gives grid_of (cells_left sheet.now rows columns (rows * columns) [] bytes.now) result }
+    ensures { Gives grid_of (cells_left (whole_of fields.entry) rows columns (rows * columns) [] (rest_of fields.entry)) result }
 {
     let mut cells = [false; 256];
     let mut free = 0;
-    let mut rest = bytes;
-    for i in 0..rows * columns {
-        let [byte, after @ ..] = rest else {
-            return Err(cut_short(sheet));
-        };
-        let Some(is_free) = read_cell(*byte, free) else {
-            return Err(fault_at(Refusal::OutsideLimit, sheet, rest));
-        };
-        cells[i as usize] = is_free;
-        if is_free {
-            free += 1;
-        }
-        rest = after;
+    for cell in &mut cells[..(rows * columns) as usize] {
+        *cell = read_cell(&mut fields, free)?;
+        free += u32::from(*cell);
     }
     if free < 1 {
-        return Err(fault_at(Refusal::OutsideLimit, sheet, rest));
+        return Err(fields.fault(Refusal::OutsideLimit));
     }
-    if !rest.is_empty() {
-        return Err(fault_at(Refusal::LeftOver, sheet, rest));
-    }
+    fields.ended()?;
     Ok(Tray {
         rows,
         columns,
@@ -67,11 +56,14 @@ fn read_cells(sheet: &[u8], bytes: &[u8], rows: u32, columns: u32) -> Result<Tra
     })
 }
 
-// The tray of a sheet's fields, which are the end of the sheet.
-pub(crate) fn read_fields(sheet: &[u8], fields: &[u8]) -> Result<Tray, Fault>
-    ensures { Gives grid_of (tray_fields sheet.now fields.now) result }
+// Whether the next cell is free, where `free` cells are free before it.
+fn read_cell(fields: &mut Fields, free: u32) -> Result<bool, Fault>
+    ensures { TakesCell free fields.old fields.new result }
 {
-    let rows = limited(sheet, fields, 1, LONGEST_SIDE)?;
-    let columns = limited(sheet, rows.rest, 1, LONGEST_SIDE)?;
-    read_cells(sheet, columns.rest, rows.value, columns.value)
+    let here = *fields;
+    match fields.byte()? {
+        FREE if free < MOST_FREE => Ok(true),
+        WALL => Ok(false),
+        _ => Err(here.fault(Refusal::OutsideLimit)),
+    }
 }

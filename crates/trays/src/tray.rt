@@ -3,6 +3,7 @@ ghost use Rattle.std.specs.Prelude.{◌≡◌, ◌*◌, ◌≤◌, length, take}
 ghost use Rattle.trays.specs.Tray.{frees};
 
 // Rows and columns are 1 to 16. The cells stand row by row, true for a free one; those behind the last row mean nothing.
+// A fixed array with the sizes beside it: a table takes no heap.
 #[derive(Clone, Copy)]
 pub struct Tray {
     pub(crate) rows: u32,

@@ -1,29 +1,20 @@
 // A gate row as a feeder, and its gates.
 ghost use Rattle.std.specs.Prelude.{◌≡◌, ◌<◌, ◌≤◌};
-ghost use Rattle.feeders.specs.Sets.{has};
 ghost use Rattle.gates.specs.Gates.{gate_motion, turned};
 ghost use Rattle.gates.specs.Held.{gate_at, gates_of};
 ghost use Rattle.gates.specs.Valid.{row_valid};
 
 use crate::gate::Gate;
 use crate::row::GateRow;
-use feeders::Feeder;
+use feeders::{Feeder, has};
 use refusals::Refusal;
-
-// Whether the pose belongs to the set: its bit is 1.
-fn belongs(set: u32, pose: u32) -> bool
-    requires { pose < 32 }
-    ensures { result ≡ has set pose }
-{
-    set >> pose & 1 == 1
-}
 
 // Where the gate brings one of `n` poses.
 fn brought(n: u32, gate: Gate, pose: u32) -> u32
     requires { (pose < n) × ((n ≤ 32) × (gate.turn < n)) }
     ensures { result ≡ turned n gate pose }
 {
-    if belongs(gate.set, pose) {
+    if has(gate.set, pose) {
         (pose + gate.turn) % n
     } else {
         pose
@@ -35,10 +26,7 @@ impl GateRow {
     pub fn gate(&self, action: u32) -> Result<Gate, Refusal>
         ensures { result ≡ gate_at (gates_of self.now) action }
     {
-        if action >= self.actions {
-            return Err(Refusal::NoAction);
-        }
-        Ok(self.gates[action as usize])
+        self.gates.get(action as usize).ok_or(Refusal::NoAction)
     }
 }
 
@@ -52,16 +40,13 @@ impl Feeder for GateRow {
     }
 
     fn actions(&self) -> u32 {
-        self.actions
+        self.gates.len() as u32
     }
 
     fn follow(&self, pose: u32, action: u32) -> Result<u32, Refusal> {
         if pose >= self.poses {
             return Err(Refusal::NoPose);
         }
-        if action >= self.actions {
-            return Err(Refusal::NoAction);
-        }
-        Ok(brought(self.poses, self.gates[action as usize], pose))
+        Ok(brought(self.poses, self.gate(action)?, pose))
     }
 }

@@ -1,17 +1,15 @@
 // A new job, and the calls that handle the part: bar, allow, shake, step.
 ghost use Rattle.std.specs.Prelude.{◌≡◌, [], None};
 ghost use Rattle.graphs.specs.PairRule.{every};
-ghost use Rattle.histories.specs.Rules.{advanced, length_of};
+ghost use Rattle.histories.specs.Rules.{advanced};
 ghost use Rattle.histories.specs.declared.call.Call.TheVariants.{Allow, Bar, Shake, Step};
-ghost use Rattle.jobs.specs.Checks.{starts_with};
 ghost use Rattle.jobs.specs.Reach.{Performs, Reached, plan_of};
 
 use crate::checks::{brought, usable};
 use crate::job::Job;
-use crate::sets::{all_below, with_number, without_number};
+use crate::sets::{with_number, without_number};
 use feeders::Feeder;
 use histories::Answer;
-use plans::Plan;
 use refusals::Refusal;
 
 impl<F: Feeder> Job<F> {
@@ -20,14 +18,13 @@ impl<F: Feeder> Job<F> {
         ensures same { result.feeder ≡ feeder }
         ensures reached { Reached (F.Feeder.motion feeder) [] None result }
     {
-        let allowed = all_below(feeder.actions());
-        let poses = all_below(feeder.poses());
+        let allowed = feeders::every(feeder.actions());
+        let poses = feeders::every(feeder.poses());
         Job {
             feeder,
             allowed,
             poses,
-            plan: Plan::new(),
-            held: false,
+            plan: None,
         }
     }
 
@@ -70,7 +67,7 @@ impl<F: Feeder> Job<F> {
         let a = usable(&self.feeder, self.allowed, action)?;
         self.poses = brought(&self.feeder, self.poses, &[a]);
         self.advance(a);
-        Ok(self.held_len())
+        Ok(self.plan_len())
     }
 
     // Any pose is possible, and no plan is held.
@@ -80,8 +77,8 @@ impl<F: Feeder> Job<F> {
         ensures poses { self.new.poses ≡ every (F.Feeder.motion self.old.feeder) }
         ensures plan { plan_of self.new ≡ None }
     {
-        self.poses = all_below(self.feeder.poses());
-        self.held = false;
+        self.poses = feeders::every(self.feeder.poses());
+        self.plan = None;
     }
 
     // What a step leaves of the plan.
@@ -91,34 +88,9 @@ impl<F: Feeder> Job<F> {
         ensures poses { self.new.poses ≡ self.old.poses }
         ensures plan { plan_of self.new ≡ advanced (plan_of self.old) action }
     {
-        if !self.held {
-            return;
+        match &mut self.plan {
+            Some(plan) if plan.as_slice().starts_with(&[action]) => plan.remove(0).unwrap(),
+            _ => self.plan = None,
         }
-        if !starts_with(self.plan.as_slice(), action) {
-            self.held = false;
-            return;
-        }
-        self.held = self.plan.remove(0).is_ok();
-    }
-
-    // The length of the plan, if one is held.
-    pub(crate) fn held_len(&self) -> Option<usize>
-        ensures { result ≡ length_of (plan_of self.now) }
-    {
-        if self.held {
-            Some(self.plan.len())
-        } else {
-            None
-        }
-    }
-}
-
-// Whether the list begins with the action.
-fn starts_with(list: &[u8], action: u8) -> bool
-    ensures { result ≡ starts_with list.now action }
-{
-    match list {
-        [first, ..] => *first == action,
-        [] => false,
     }
 }

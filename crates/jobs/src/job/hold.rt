@@ -2,81 +2,67 @@
 ghost use Rattle.histories.specs.declared.call.Call.TheVariants.{Add, Aim, Cut, Plan, Put};
 ghost use Rattle.jobs.specs.Reach.{Performs};
 
-use crate::checks::{brought, first_bad, usable};
+use crate::checks::{all_usable, end_of, usable};
 use crate::job::Job;
-use crate::sets::only_pose;
 use feeders::Feeder;
 use histories::Answer;
 use planning::{append_way_to, plan_pairs};
 use refusals::Refusal;
-
-// How many actions a plan has at most.
-const MOST: usize = 16384;
 
 impl<F: Feeder> Job<F> {
     // The plan becomes the one that the pair rule gives from the possible poses.
     pub fn plan(&mut self) -> Answer
         ensures { Performs (F.Feeder.motion self.old.feeder) self.old Plan self.new result }
     {
-        plan_pairs(&self.feeder, self.allowed, self.poses, &mut self.plan)?;
-        self.held = true;
-        Ok(Some(self.plan.len()))
+        let mut made = plans::Plan::new();
+        plan_pairs(&self.feeder, self.allowed, self.poses, &mut made)?;
+        self.plan = Some(made);
+        Ok(self.plan_len())
     }
 
     // The plan becomes the list.
     pub fn put(&mut self, list: &[u8]) -> Answer
         ensures { Performs (F.Feeder.motion self.old.feeder) self.old (Put list.entry) self.new result }
     {
-        if list.len() > MOST {
-            return Err(Refusal::PlanTooLong);
-        }
-        if let Some(refusal) = first_bad(&self.feeder, self.allowed, list) {
-            return Err(refusal);
-        }
-        let Some(_) = only_pose(brought(&self.feeder, self.poses, list)) else {
-            return Err(Refusal::Apart);
-        };
-        self.plan.replace(list)?;
-        self.held = true;
-        Ok(Some(list.len()))
+        let mut taken = plans::Plan::new();
+        taken.replace(list)?;
+        all_usable(&self.feeder, self.allowed, list)?;
+        end_of(&self.feeder, self.poses, list).ok_or(Refusal::Apart)?;
+        self.plan = Some(taken);
+        Ok(self.plan_len())
     }
 
     // One action more at the plan's end.
     pub fn add(&mut self, action: u32) -> Answer
         ensures { Performs (F.Feeder.motion self.old.feeder) self.old (Add action) self.new result }
     {
-        if !self.held {
+        let Some(plan) = &mut self.plan else {
             return Err(Refusal::NoPlan);
-        }
-        let a = usable(&self.feeder, self.allowed, action)?;
-        self.plan.push(a)?;
-        Ok(Some(self.plan.len()))
+        };
+        plan.push(usable(&self.feeder, self.allowed, action)?)?;
+        Ok(Some(plan.len()))
     }
 
     // The plan without the action at the place, counted from 0.
     pub fn cut(&mut self, place: usize) -> Answer
         ensures { Performs (F.Feeder.motion self.old.feeder) self.old (Cut place) self.new result }
     {
-        if !self.held {
-            return Err(Refusal::NoPlan);
-        }
-        let mut rest = self.plan;
+        let mut rest = self.plan.ok_or(Refusal::NoPlan)?;
         rest.remove(place)?;
-        let Some(_) = only_pose(brought(&self.feeder, self.poses, rest.as_slice())) else {
-            return Err(Refusal::Apart);
-        };
-        self.plan = rest;
-        Ok(Some(self.plan.len()))
+        end_of(&self.feeder, self.poses, rest.as_slice()).ok_or(Refusal::Apart)?;
+        self.plan = Some(rest);
+        Ok(self.plan_len())
     }
 
     // The way from the plan's end pose to the pose is appended.
     pub fn aim(&mut self, pose: u32) -> Answer
         ensures { Performs (F.Feeder.motion self.old.feeder) self.old (Aim pose) self.new result }
     {
-        let Some(end) = self.end_pose() else {
+        let end = self.end_pose().ok_or(Refusal::NoPlan)?;
+        let Some(plan) = &mut self.plan else {
             return Err(Refusal::NoPlan);
         };
-        append_way_to(&self.feeder, self.allowed, end, pose, &mut self.plan)?;
-        Ok(Some(self.plan.len()))
+        append_way_to(&self.feeder, self.allowed, end, pose, plan)?;
+        Ok(Some(plan.len()))
     }
 }

@@ -1,14 +1,15 @@
 // What a job tells of itself. None of these calls changes it.
 ghost use Rattle.std.specs.Prelude.{◌≡◌, ◌+◌, ◌*◌, ◌≤◌, length, IfOk};
+ghost use Rattle.std.specs.Option.{option_copied};
 ghost use Rattle.histories.specs.History.{permitted as permitted_set, possible as possible_set};
 ghost use Rattle.histories.specs.Rules.{length_of};
 ghost use Rattle.jobs.specs.Reach.{plan_of};
 ghost use Rattle.jobs.specs.Tells.{Actions, EndPose, Tells, Traces, Writes};
 
-use crate::checks::brought;
+use crate::checks::end_of;
 use crate::job::Job;
-use crate::sets::only_pose;
 use feeders::Feeder;
+use plans::Plan;
 use refusals::Refusal;
 use traces::write_trace;
 
@@ -39,44 +40,34 @@ impl<F: Feeder> Job<F> {
         ensures stored { result ≡ length_of (plan_of self.now) }
         ensures told { Tells (F.Feeder.motion self.now.feeder) self.now (λ h plan. result ≡ length_of plan) }
     {
-        self.held_len()
+        self.plan.as_ref().map(Plan::len)
     }
 
     // The actions of the plan, if one is held.
     pub fn plan_actions(&self) -> Option<&[u8]>
-        ensures { Tells (F.Feeder.motion self.now.feeder) self.now (λ h plan. Actions plan result) }
+        ensures stored { option_copied result ≡ plan_of self.now }
+        ensures told { Tells (F.Feeder.motion self.now.feeder) self.now (λ h plan. Actions plan result) }
     {
-        if self.held {
-            Some(self.plan.as_slice())
-        } else {
-            None
-        }
+        self.plan.as_ref().map(Plan::as_slice)
     }
 
     // The pose in which the plan ends, if one is held.
     pub fn end_pose(&self) -> Option<u32>
         ensures { Tells (F.Feeder.motion self.now.feeder) self.now (λ h plan. EndPose (F.Feeder.motion self.now.feeder) h plan result) }
     {
-        if !self.held {
-            return None;
-        }
-        only_pose(brought(&self.feeder, self.poses, self.plan.as_slice()))
+        let list = self.plan_actions()?;
+        end_of(&self.feeder, self.poses, list)
     }
 
     // Writes the plan as a record to the front of the buffer, and answers how many bytes the record has.
     pub fn write(&self, buffer: &mut [u8]) -> Result<usize, Refusal>
         ensures { Tells (F.Feeder.motion self.now.feeder) self.now (λ h plan. Writes (F.Feeder.motion self.now.feeder) h buffer.old buffer.new result plan) }
     {
-        let Some(end) = self.end_pose() else {
-            return Err(Refusal::NoPlan);
-        };
-        records::write(
-            self.feeder.poses(),
-            self.feeder.actions(),
-            end,
-            self.plan.as_slice(),
-            buffer,
-        )
+        let list = self.plan_actions().ok_or(Refusal::NoPlan)?;
+        let end = self.end_pose().ok_or(Refusal::NoPlan)?;
+        let poses = self.feeder.poses();
+        let actions = self.feeder.actions();
+        records::write(poses, actions, end, list, buffer)
     }
 
     // Writes a row for the start and one for each action of the plan to the front of the buffer, and answers the plan's length.
@@ -84,24 +75,15 @@ impl<F: Feeder> Job<F> {
         ensures room { IfOk result (λ n. 12 * (n + 1) ≤ length buffer.old) }
         ensures told { Tells (F.Feeder.motion self.now.feeder) self.now (λ h plan. Traces (F.Feeder.motion self.now.feeder) h buffer.old buffer.new result plan) }
     {
-        if !self.held {
-            return Err(Refusal::NoPlan);
-        }
-        write_trace(&self.feeder, self.poses, self.plan.as_slice(), buffer)?;
-        Ok(self.plan.len())
+        let list = self.plan_actions().ok_or(Refusal::NoPlan)?;
+        write_trace(&self.feeder, self.poses, list, buffer)?;
+        Ok(list.len())
     }
 
     // Uses up the job, and gives the feeder back.
     pub fn finish(self) -> F
         ensures { result ≡ self.feeder }
     {
-        let Job {
-            feeder,
-            allowed: _,
-            poses: _,
-            plan: _,
-            held: _,
-        } = self;
-        feeder
+        self.feeder
     }
 }

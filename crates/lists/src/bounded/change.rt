@@ -7,6 +7,7 @@ ghost use Rattle.lists.specs.Lends.{LendsItem};
 
 use crate::bounded::Bounded;
 use crate::full::Full;
+use std::mem;
 
 impl<T: Copy, const N: usize> Bounded<T, N> {
     // One item more, at the end.
@@ -49,9 +50,7 @@ impl<T: Copy, const N: usize> Bounded<T, N> {
     pub fn replace(&mut self, place: usize, item: T) -> Option<T>
         ensures { Replaces place item self.old self.new result }
     {
-        let before = self.get(place)?;
-        self.items[place] = item;
-        Some(before)
+        Some(mem::replace(self.get_mut(place)?, item))
     }
 
     // Lends the item at a place, to be changed there.

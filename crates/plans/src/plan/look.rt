@@ -3,7 +3,7 @@ ghost use Rattle.std.specs.Prelude.{◌≡◌, ◌≤◌, T, ◌↔◌, [], leng
 ghost use Rattle.plans.specs.Held.{list_of};
 
 use crate::plan::Plan;
-use feeders::same_list;
+use lists::Bounded;
 
 impl Plan {
     // No actions.
@@ -11,8 +11,7 @@ impl Plan {
         ensures { list_of result ≡ [] }
     {
         Plan {
-            actions: [0; 16384],
-            length: 0,
+            actions: Bounded::new(0),
         }
     }
 
@@ -21,27 +20,27 @@ impl Plan {
         ensures counts { result ≡ length (list_of self.now) }
         ensures most { result ≤ 16384 }
     {
-        self.length
+        self.actions.len()
     }
 
     // Whether the plan has no actions.
     pub fn is_empty(&self) -> bool
         ensures { T result ↔ (list_of self.now ≡ []) }
     {
-        self.len() == 0
+        self.actions.is_empty()
     }
 
     // The actions, in order.
     pub fn as_slice(&self) -> &[u8]
         ensures { result.now ≡ list_of self.now }
     {
-        &self.actions[..self.length]
+        self.actions.as_slice()
     }
 
     // Whether the plan is that list.
     pub fn same_as(&self, list: &[u8]) -> bool
         ensures { T result ↔ (list_of self.now ≡ list.now) }
     {
-        same_list(self.as_slice(), list)
+        self.as_slice() == list
     }
 }

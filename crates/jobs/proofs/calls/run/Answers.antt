@@ -1,4 +1,5 @@
 use Rattle.std.proofs.Common.{◌≡◌, ◌<◌, min, List, [], reverse, length, get_or, None, sym, refl, ◌∙◌, subst, arith}
+use Rattle.std.proofs.lemmas.List.{length-take, get_or-take}
 use Rattle.histories.specs.declared.call.Call.{Call}
 use Rattle.histories.specs.declared.call.Call.TheVariants.{Bar}
 use Rattle.histories.proofs.Deciding.{determined}
@@ -18,9 +19,11 @@ loop-i-preserved g c =
     let job = c.loop-i.job in
     let next = c.perform.new.self in
     let r = c.perform.result in
+    let front : i < c.min-count.result = omega (arith, length-take c.min-count.result calls) in
     let lc : i < length calls = omega arith in
     let la : i < length c.loop-i.answers = omega arith in
-    (c.perform.ensures.feeder_same ∙ c.loop-i.invariant.0, ran_more (g.F.Feeder.motion c.new-job.result.feeder) calls c.args.answers.now c.loop-i.answers i job next r lc la (subst (λ f. Leads (g.F.Feeder.motion f) job (get_or calls i (Bar 0)) next r) c.loop-i.invariant.0 c.perform.ensures.leads) c.loop-i.invariant.1)
+    let leads = subst (λ (call : Call). Leads (g.F.Feeder.motion job.feeder) job call next r) (get_or-take c.min-count.result calls i (Bar 0) front) c.perform.ensures.leads in
+    (c.perform.ensures.feeder_same ∙ c.loop-i.invariant.0, ran_more (g.F.Feeder.motion c.new-job.result.feeder) calls c.args.answers.now c.loop-i.answers i job next r lc la (subst (λ f. Leads (g.F.Feeder.motion f) job (get_or calls i (Bar 0)) next r) c.loop-i.invariant.0 leads) c.loop-i.invariant.1)
 
 pub returns : goal.returns
 returns g c =
@@ -29,7 +32,7 @@ returns g c =
     let i = c.loop-i.i in
     let job = c.loop-i.job in
     let ran = subst (λ f. Ran (g.F.Feeder.motion f) calls old c.loop-i.answers i job) c.new-job.ensures.same c.loop-i.invariant.1 in
-    let end : i ≡ min (length calls) (length old) = omega arith in
+    let end : i ≡ min (length calls) (length old) = omega (arith, length-take c.min-count.result calls) in
     record {
       same = c.loop-i.invariant.0 ∙ c.new-job.ensures.same;
       each = λ k lc la. ran.placed k (omega arith);

@@ -1,40 +1,32 @@
--- Each way out of the loop is a step of list_at.
-use Rattle.std.proofs.Common.{Err, sym, ap, ◌∙◌, rules}
-use Rattle.refusals.specs.declared.Fault.{Fault}
-use Rattle.records.proofs.Steps.{list_ended, list_left_over, list_outside, list_too_long, list_more, list_cut}
+-- Each way out is what list_at comes to after the actions that were counted.
+use Rattle.std.proofs.Common.{◌<◌, get_or, ◌∙◌, rules}
+use Rattle.records.proofs.Lists.{counted_full, list_counted}
+use Rattle.records.proofs.Steps.{list_cut, list_ended, list_left_over, list_outside, list_too_long}
 use Rattle.records.proofs.reading.list_in.Goals as goal
 
-pub returns-then-i-rest : goal.returns-then-i-rest
-returns-then-i-rest c =
-    c.loop-i.invariant.0
-    ∙ list_left_over c.args.actions c.loop-i.i c.args.rest.now c.loop-i-test.true c.if-byte-eq-END.true c.if-i-rest.true
-    ∙ ap (λ (f : Fault). Err f) (sym c.fault_at.ensures)
-
-pub returns-then-byte-eq-END : goal.returns-then-byte-eq-END
-returns-then-byte-eq-END c =
-    c.loop-i.invariant.0
-    ∙ list_ended c.args.actions c.loop-i.i c.args.rest.now c.loop-i-test.true c.if-byte-eq-END.true c.if-i-rest.false
+pub returns-in_default : goal.returns-in_default
+returns-in_default c =
+    let from = list_counted c.args.actions c.args.rest.now _ c.actions_in-count.ensures.counts _ _ c.requires c.split_at.ensures.front c.split_at.ensures.back in
+    rw c.fault_at.ensures (from ∙ list_cut _ _ _ _ c.split_at.ensures.front_len c.in_default.len_below)
 
 pub returns-then-from-actions : goal.returns-then-from-actions
 returns-then-from-actions c =
-    c.loop-i.invariant.0
-    ∙ list_outside c.args.actions c.loop-i.i c.args.rest.now c.loop-i-test.true c.if-byte-eq-END.false (search rules)
-    ∙ ap (λ (f : Fault). Err f) (sym c.fault_at-then-from-actions.ensures)
+    let from = list_counted c.args.actions c.args.rest.now _ c.actions_in-count.ensures.counts _ _ c.requires c.split_at.ensures.front c.split_at.ensures.back in
+    let lt : get_or c.split_at.result.1.now 0 0 < c.args.actions = search rules in
+    let full = counted_full c.args.actions c.args.rest.now _ c.actions_in-count.ensures.counts _ c.split_at.ensures.back c.in-len1-up.len_at_least lt in
+    rw c.fault_at-then-from-actions.ensures (from ∙ list_too_long _ _ _ _ c.requires c.split_at.ensures.front_len c.in-len1-up.len_at_least lt full)
 
-pub returns-then-i-eq-ROOM : goal.returns-then-i-eq-ROOM
-returns-then-i-eq-ROOM c =
-    c.loop-i.invariant.0
-    ∙ list_too_long c.args.actions c.loop-i.i c.args.rest.now c.loop-i-test.true c.if-byte-eq-END.false (search rules) c.if-i-eq-ROOM.true
-    ∙ ap (λ (f : Fault). Err f) (sym c.fault_at-then-i-eq-ROOM.ensures)
+pub returns-then-byte-ne-END : goal.returns-then-byte-ne-END
+returns-then-byte-ne-END c =
+    let from = list_counted c.args.actions c.args.rest.now _ c.actions_in-count.ensures.counts _ _ c.requires c.split_at.ensures.front c.split_at.ensures.back in
+    rw c.fault_at-then-byte-ne-END.ensures (from ∙ list_outside _ _ _ _ c.split_at.ensures.front_len c.in-len1-up.len_at_least c.if-byte-ne-END.true (search rules))
 
-pub loop-i-preserved : goal.loop-i-preserved
-loop-i-preserved c = (
-  c.loop-i.invariant.0 ∙ list_more c.args.actions c.loop-i.i c.args.rest.now c.loop-i-test.true c.if-byte-eq-END.false (search rules) (search rules),
-  search rules,
-)
+pub returns-then-not-is_empty : goal.returns-then-not-is_empty
+returns-then-not-is_empty c =
+    let from = list_counted c.args.actions c.args.rest.now _ c.actions_in-count.ensures.counts _ _ c.requires c.split_at.ensures.front c.split_at.ensures.back in
+    rw c.fault_at-then-not-is_empty.ensures (from ∙ list_left_over _ _ _ c.split_at.result.1.now c.split_at.ensures.front_len (search rules) c.if-byte-ne-END.false)
 
 pub returns : goal.returns
 returns c =
-    c.loop-i.invariant.0
-    ∙ list_cut c.args.actions c.loop-i.i c.args.rest.now (search rules)
-    ∙ ap (λ (f : Fault). Err f) (sym c.fault_at-2.ensures)
+    let from = list_counted c.args.actions c.args.rest.now _ c.actions_in-count.ensures.counts _ _ c.requires c.split_at.ensures.front c.split_at.ensures.back in
+    from ∙ list_ended _ _ c.split_at.result.1.now (search rules) c.if-byte-ne-END.false

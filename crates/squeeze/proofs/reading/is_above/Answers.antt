@@ -1,7 +1,8 @@
 -- The last rest is that of the steps read.
 use Rattle.std.proofs.Common.{arith}
-use Rattle.squeeze.proofs.Readings.{above_is}
+use Rattle.std.proofs.lemmas.Grind.{common_steps}
+use Rattle.squeeze.proofs.Rule.{follows_none, follows_last}
 use Rattle.squeeze.proofs.reading.is_above.Goals as goal
 
 pub returns : goal.returns
-returns c = above_is c.args.steps.now c.args.count c.args.begin (omega arith) (omega arith)
+returns c = grind (arith, common_steps, follows_none c.args.steps.now c.args.begin, follows_last c.args.steps.now c.args.begin)

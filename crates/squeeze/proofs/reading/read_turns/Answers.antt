@@ -1,18 +1,31 @@
 -- One turn more is read, or the fault of the one that is refused is that of them all.
-use Rattle.std.proofs.Common.{◌<◌, length, ◌∙◌, arith}
-use Rattle.std.proofs.lemmas.List.{length-set}
+use Rattle.std.proofs.Common.{◌≡◌, ◌+◌, ◌-◌, ◌++◌, [], ◌∷◌, Ok, Err, length, sym, ap, ◌∙◌, arith, length-append}
 use Rattle.std.proofs.lemmas.Result.{err_from_is_err_and}
-use Rattle.squeeze.proofs.Readings.{turns_turn, turns_refused}
+use Rattle.lists.specs.Held.{list_of}
+use Rattle.numbers.specs.Field.{rest_of, whole_of}
+use Rattle.numbers.proofs.Field.{below_at}
+use Rattle.squeeze.specs.Sheet.{turns_left}
+use Rattle.squeeze.proofs.Readings.{takes_whole, turn_takes, pushed}
 use Rattle.squeeze.proofs.reading.read_turns.Goals as goal
 
-pub returns-in_err-next : goal.returns-in_err-next
-returns-in_err-next c =
+pub returns-in_err-below : goal.returns-in_err-below
+returns-in_err-below c =
+    let l = c.loop in
     let p = err_from_is_err_and c.from_residual.result c.from_residual.ensures.1 in
-    rw (p.1, p.2) (λ steps. c.loop-i.invariant.0 steps ∙ turns_refused c.args.sheet.now c.from.result c.args.ticks steps c.args.count c.loop-i.i c.loop-i.turns c.loop-i.rest.now _ c.loop-i-test.true c.from.ensures c.in_err-next.ensures.gives)
+    let e = c.in_err-below.field-0.0 in
+    rw (p.1, p.2) (record {
+      whole = takes_whole (below_at c.from.result) l.fields c.below.new.self (Err e) c.in_err-below.ensures.takes ∙ l.invariant.whole;
+      goes_on = λ steps. l.invariant.goes_on steps ∙ turn_takes (whole_of c.args.fields.now) c.from.result c.args.ticks steps c.args.count l.counter (list_of l.turns) l.fields c.below.new.self (Err e) c.loop-test.true c.from.ensures l.invariant.whole c.in_err-below.ensures.takes;
+    })
 
-pub loop-i-preserved : goal.loop-i-preserved
-loop-i-preserved c =
-    let in_list : c.loop-i.i < length c.loop-i.turns = omega (arith, c.loop-i.invariant.1) in (
-      λ steps. c.loop-i.invariant.0 steps ∙ turns_turn c.args.sheet.now c.from.result c.args.ticks steps c.args.count c.loop-i.i c.loop-i.turns c.loop-i.rest.now (record { value = c.in_ok-next.next.value; rest = c.in_ok-next.next.rest.now }) c.loop-i-test.true in_list c.from.ensures c.in_ok-next.ensures.gives,
-      length-set c.loop-i.turns c.loop-i.i c.in_ok-next.next.value ∙ c.loop-i.invariant.1,
-    )
+pub loop-preserved : goal.loop-preserved
+loop-preserved c =
+    let l = c.loop in
+    let v = c.in_ok-below.field-0 in
+    let more : list_of c.push.new.self ≡ list_of l.turns ++ (v ∷ []) = pushed v l.turns c.push.new.self c.push.result c.unwrap.result c.unwrap.ensures c.push.ensures in
+    record {
+      whole = takes_whole (below_at c.from.result) l.fields c.below.new.self (Ok v) c.in_ok-below.ensures.takes ∙ l.invariant.whole;
+      goes_on = λ steps. l.invariant.goes_on steps ∙ turn_takes (whole_of c.args.fields.now) c.from.result c.args.ticks steps c.args.count l.counter (list_of l.turns) l.fields c.below.new.self (Ok v) c.loop-test.true c.from.ensures l.invariant.whole c.in_ok-below.ensures.takes
+          ∙ ap (λ rs. turns_left (whole_of c.args.fields.now) c.args.ticks steps (c.args.count - (l.counter + 1)) rs (rest_of c.below.new.self)) (sym more);
+      long = omega (arith, ap length more, length-append (list_of l.turns) (v ∷ []), l.invariant.long);
+    }

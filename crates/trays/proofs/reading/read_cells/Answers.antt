@@ -1,34 +1,29 @@
 -- Each byte is a cell, or the fault at that byte.
-use Rattle.std.proofs.Common.{◌*◌, ◌<◌, length, get_or, Err, sym, ap, ◌∙◌, arith, length-set, rules}
-use Rattle.trays.proofs.Cellwise.{cell_missing, cell_bad, cell_good, count_free, count_wall, few_before, grid_size}
+use Rattle.std.proofs.Common.{◌+◌, ◌-◌, ◌*◌, ◌<◌, Ok, Err, ap, ◌∙◌, take, length, length-set, arith}
+use Rattle.std.proofs.lemmas.Result.{err_from_is_err_and}
+use Rattle.numbers.specs.Field.{rest_of, whole_of}
+use Rattle.trays.specs.Sheet.{cells_left, spell_cell}
+use Rattle.trays.proofs.Cellwise.{cell_takes, cell_stored, cell_counted, cell_few}
 use Rattle.trays.proofs.reading.read_cells.Goals as goal
-use Rattle.trays.proofs.reading.read_cells.Goals.{then-is_free, else-is_free}
 
-pub returns-in_default : goal.returns-in_default
-returns-in_default c =
-    c.loop-i.invariant.0
-    ∙ cell_missing c.args.sheet.now c.args.rows c.args.columns (c.args.rows * c.args.columns) c.loop-i.i _ c.loop-i.rest.now c.loop-i-test.true (search rules)
-    ∙ ap Err (sym c.cut_short.ensures)
+pub returns-in_err-cell : goal.returns-in_err-cell
+returns-in_err-cell c =
+    let l = c.loop-cell in
+    let p = err_from_is_err_and c.from_residual.result c.from_residual.ensures.1 in
+    rw (p.1, p.2)
+    (l.invariant.left ∙ cell_takes (whole_of c.args.fields) c.args.rows c.args.columns (c.args.rows * c.args.columns) l.cell-index l.free (take l.cell-index l.cell-items) l.fields (Err c.in_err-cell.field-0.0) (omega arith) l.invariant.counted l.invariant.whole c.in_err-cell.ensures)
 
-pub returns-in_default-read_cell : goal.returns-in_default-read_cell
-returns-in_default-read_cell c =
-    c.loop-i.invariant.0
-    ∙ cell_bad c.args.sheet.now c.args.rows c.args.columns (c.args.rows * c.args.columns) c.loop-i.i c.loop-i.free _ c.loop-i.rest.now c.loop-i-test.true (search rules) c.loop-i.invariant.1 c.in_default-read_cell.ensures
-    ∙ ap Err (sym c.fault_at.ensures)
-
-pub bounds-cells-i : goal.bounds-cells-i
-bounds-cells-i c = omega (arith, grid_size c.args.rows c.args.columns (omega arith) (omega arith))
-
-pub loop-i-preserved : goal.loop-i-preserved
-loop-i-preserved c =
-    let x = c.in-Some.is_free in
-    let size = grid_size c.args.rows c.args.columns (omega arith) (omega arith) in
-    let inside : c.loop-i.i < length c.loop-i.cells = omega (arith, size) in
-    let step = cell_good c.args.sheet.now c.args.rows c.args.columns (c.args.rows * c.args.columns) c.loop-i.i c.loop-i.free x c.loop-i.cells c.loop-i.rest.now c.loop-i-test.true inside (search rules) c.loop-i.invariant.1 c.in-Some.ensures.0 c.in-Some.ensures.1 in
-    let long = length-set c.loop-i.cells c.loop-i.i x ∙ c.loop-i.invariant.3 in
-    elim c.if-is_free.branch [
-      | then-is_free w ↦
-          (c.loop-i.invariant.0 ∙ step, w.free-is ∙ count_free c.loop-i.cells c.loop-i.i c.loop-i.free x inside c.loop-i.invariant.1 w.if-is_free.true, omega (arith, w.free-is, few_before c.loop-i.free (get_or c.loop-i.rest.now 0 0) x c.in-Some.ensures.0 c.in-Some.ensures.1 w.if-is_free.true), long)
-      | else-is_free w ↦
-          (c.loop-i.invariant.0 ∙ step, w.free-is ∙ count_wall c.loop-i.cells c.loop-i.i c.loop-i.free x inside c.loop-i.invariant.1 w.if-is_free.false, omega (arith, w.free-is), long)
-    ]
+pub loop-cell-preserved : goal.loop-cell-preserved
+loop-cell-preserved c =
+    let l = c.loop-cell in
+    let x = c.in_ok-cell.field-0 in
+    let n = c.args.rows * c.args.columns in
+    let inside : l.cell-index < length l.cell-items = omega arith in
+    record {
+      left = l.invariant.left ∙ cell_takes (whole_of c.args.fields) c.args.rows c.args.columns n l.cell-index l.free (take l.cell-index l.cell-items) l.fields (Ok (record { value = spell_cell x; rest = rest_of c.read_cell.new.fields })) (omega arith) l.invariant.counted l.invariant.whole c.in_ok-cell.ensures.0
+          ∙ ap (λ cs. cells_left (whole_of c.args.fields) c.args.rows c.args.columns (n - (l.cell-index + 1)) cs (rest_of c.read_cell.new.fields)) (cell_stored l.cell-items l.cell-index x inside);
+      whole = c.in_ok-cell.ensures.1 ∙ l.invariant.whole;
+      counted = rw c.from-free.ensures (cell_counted l.cell-items l.cell-index l.free x inside l.invariant.counted);
+      few = rw c.from-free.ensures (cell_few l.free (whole_of l.fields) (rest_of l.fields) (rest_of c.read_cell.new.fields) x c.in_ok-cell.ensures.0 l.invariant.few);
+      long = length-set l.cell-items l.cell-index x ∙ l.invariant.long;
+    }

@@ -1,29 +1,31 @@
-use Rattle.std.proofs.Common.{◌≡◌, Err, sym, refl, subst}
-use Rattle.std.proofs.lemmas.Result.{err_from_is_err_and}
-use Rattle.plans.specs.declared.plan.Plan.{Plan}
+use Rattle.std.proofs.Common.{Some, sym, refl, ap, ◌∙◌, subst}
+use Rattle.plans.specs.Held.{list_of}
+use Rattle.plans.proofs.Fitting.{length-list_of_le}
 use Rattle.histories.specs.declared.call.Call.TheVariants.{Aim}
-use Rattle.jobs.specs.Reach.{Performs}
-use Rattle.jobs.proofs.Holding.{aim_none, aim_refused, aim_performed}
+use Rattle.jobs.proofs.Making.{handed_on, missing}
+use Rattle.jobs.proofs.Holding.{EndsIn, plan_is, aim_none, aim_refused, aim_performed}
 use Rattle.jobs.proofs.job.Job.aim.Goals as goal
 
-pub returns-in_default : goal.returns-in_default
-returns-in_default g c =
+pub returns-in_err-end : goal.returns-in_err-end
+returns-in_err-end g c =
     let j = c.args.self.now in
-    aim_none (g.F.Feeder.motion j.feeder) (g.F.Feeder.valid j.feeder) j c.args.pose c.in_default.ensures
+    let m = g.F.Feeder.motion j.feeder in
+    let ok = g.F.Feeder.valid j.feeder in
+    missing m ok j (Aim c.args.pose) c.end_pose.result _ _ _ c.from_residual.ensures.1 c.in_err-end.ensures.value (λ e. aim_none m ok j c.args.pose (subst (EndsIn m j) e c.end_pose.ensures))
 
 pub returns-in_err-append_way_to : goal.returns-in_err-append_way_to
 returns-in_err-append_way_to g c =
     let j = c.args.self.now in
     let m = g.F.Feeder.motion j.feeder in
-    let q = c.args.pose in
-    let e = c.in_err-append_way_to.field-0.0 in
-    let p = err_from_is_err_and c.from_residual.result c.from_residual.ensures.1 in
-    let answer : c.from_residual.result ≡ Err e = cc (p.1, p.2) in
+    let ok = g.F.Feeder.valid j.feeder in
+    let ends = subst (EndsIn m j) c.in_ok-end.ensures.ok_part c.end_pose.ensures in
     let told = c.in_err-append_way_to.ensures.aimed in
-    subst (λ (x : Plan). Performs m j (Aim q) (record { feeder = j.feeder; allowed = j.allowed; poses = j.poses; plan = x; held = j.held }) c.from_residual.result) (sym told.1) (subst (Performs m j (Aim q) j) (sym answer) (aim_refused m (g.F.Feeder.valid j.feeder) j c.in-Some.end q c.in-Some.ensures told.0))
+    handed_on m ok j (Aim c.args.pose) _ _ _ c.from_residual-in_err-append_way_to.ensures.1 (ap Some told.1 ∙ sym c.in-Some.is) (aim_refused m ok j (list_of c.in-Some.plan) (plan_is j _ c.in-Some.is) c.in_ok-end.end ends c.args.pose told.0)
 
 pub returns : goal.returns
 returns g c =
     let j = c.args.self.now in
+    let m = g.F.Feeder.motion j.feeder in
+    let ends = subst (EndsIn m j) c.in_ok-end.ensures.ok_part c.end_pose.ensures in
     let told = c.in_ok-append_way_to.ensures.aimed in
-    aim_performed (g.F.Feeder.motion j.feeder) (g.F.Feeder.valid j.feeder) j _ c.in-Some.end c.args.pose c.len.result told.2.0 c.in-Some.ensures told.0 told.2.1 told.2.2 refl refl refl refl c.len.ensures.counts
+    aim_performed m (g.F.Feeder.valid j.feeder) j (list_of c.in-Some.plan) (plan_is j _ c.in-Some.is) c.in_ok-end.end ends _ c.args.pose _ told.2.0 (list_of c.append_way_to.new.plan) told.0 told.2.1 told.2.2 (length-list_of_le c.append_way_to.new.plan) refl refl refl refl (ap Some c.len.ensures.counts)

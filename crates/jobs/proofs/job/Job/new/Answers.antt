@@ -1,11 +1,9 @@
-use Rattle.std.proofs.Common.{ℕ, ◌-◌, ◌^◌, refl, ap, ◌∙◌}
+use Rattle.std.proofs.Common.{rules, refl}
 use Rattle.jobs.proofs.Making.{new_reached}
 use Rattle.jobs.proofs.job.Job.new.Goals as goal
 
-pub returns : goal.returns
-returns g c =
-    let f = c.args.feeder in
-    record {
-      same = refl;
-      reached = new_reached (g.F.Feeder.motion f) (g.F.Feeder.valid f) _ (c.all_below-allowed.ensures ∙ ap (λ (n : ℕ). 2 ^ n - 1) c.actions.ensures) (c.all_below-poses.ensures ∙ ap (λ (n : ℕ). 2 ^ n - 1) c.poses.ensures) refl;
-    }
+pub returns-clause-reached : goal.returns-clause-reached
+returns-clause-reached g c =
+    let m = g.F.Feeder.motion c.args.feeder in
+    let ok = g.F.Feeder.valid c.args.feeder in
+    new_reached m ok _ (search rules) (search rules) refl

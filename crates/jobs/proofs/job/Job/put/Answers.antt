@@ -1,27 +1,32 @@
-use Rattle.std.proofs.Common.{sym, refl, subst}
-use Rattle.graphs.specs.PairRule.{One}
+use Rattle.std.proofs.Common.{sym, refl}
 use Rattle.plans.specs.Held.{list_of}
-use Rattle.jobs.proofs.Checking.{only_one}
-use Rattle.jobs.proofs.Holding.{put_long, put_refused, put_parts, put-performed, stored_ok}
+use Rattle.histories.specs.declared.call.Call.TheVariants.{Put}
+use Rattle.jobs.proofs.Making.{handed_on, missing}
+use Rattle.jobs.proofs.Holding.{put_long, put_refused, put_parts, put-performed}
 use Rattle.jobs.proofs.job.Job.put.Goals as goal
 
-pub returns-then-list-gt-MOST : goal.returns-then-list-gt-MOST
-returns-then-list-gt-MOST g c =
+pub returns-in_err-replace : goal.returns-in_err-replace
+returns-in_err-replace g c =
     let j = c.args.self.now in
-    put_long (g.F.Feeder.motion j.feeder) (g.F.Feeder.valid j.feeder) j c.args.list c.if-list-gt-MOST.true
+    let m = g.F.Feeder.motion j.feeder in
+    let ok = g.F.Feeder.valid j.feeder in
+    handed_on m ok j (Put c.args.list) j.plan _ _ c.from_residual.ensures.1 refl (put_long m ok j c.args.list _ c.in_err-replace.ensures.0)
 
-pub returns-in-Some : goal.returns-in-Some
-returns-in-Some g c =
+pub returns-in_err-all_usable : goal.returns-in_err-all_usable
+returns-in_err-all_usable g c =
     let j = c.args.self.now in
-    put_refused (g.F.Feeder.motion j.feeder) (g.F.Feeder.valid j.feeder) j c.args.list c.in-Some.refusal c.if-list-gt-MOST.false (sym c.in-Some.ensures)
+    let m = g.F.Feeder.motion j.feeder in
+    let ok = g.F.Feeder.valid j.feeder in
+    handed_on m ok j (Put c.args.list) j.plan _ _ c.from_residual-in_err-all_usable.ensures.1 refl (put_refused m ok j c.args.list _ c.in_ok-replace.ensures _ (sym c.in_err-all_usable.ensures))
 
-pub returns-in_default-only_pose : goal.returns-in_default-only_pose
-returns-in_default-only_pose g c =
+pub returns-in_err-ok_or : goal.returns-in_err-ok_or
+returns-in_err-ok_or g c =
     let j = c.args.self.now in
-    put_parts (g.F.Feeder.motion j.feeder) (g.F.Feeder.valid j.feeder) j c.args.list c.if-list-gt-MOST.false (sym c.in_default.ensures) (λ o. c.in_default-only_pose.ensures (subst One (sym c.brought.ensures) o))
+    let m = g.F.Feeder.motion j.feeder in
+    let ok = g.F.Feeder.valid j.feeder in
+    missing m ok j (Put c.args.list) c.end_of.result _ _ _ c.from_residual-in_err-ok_or.ensures.1 c.in_err-ok_or.ensures.value (put_parts m ok j c.args.list _ c.in_ok-replace.ensures c.end_of.result (sym c.in_ok-all_usable.ensures) c.end_of.ensures)
 
 pub returns : goal.returns
 returns g c =
     let j = c.args.self.now in
-    let one = only_one c.brought.result c.in-Some-only_pose.field-0 c.in-Some-only_pose.ensures in
-    put-performed (g.F.Feeder.motion j.feeder) (g.F.Feeder.valid j.feeder) j _ c.args.list c.if-list-gt-MOST.false (sym c.in_default.ensures) (subst One c.brought.ensures one) refl refl refl refl (stored_ok c.args.list.now (list_of c.replace.new.self) c.in_ok-replace.ensures).0
+    put-performed (g.F.Feeder.motion j.feeder) (g.F.Feeder.valid j.feeder) j c.args.list (list_of c.replace.new.self) c.in_ok-replace.ensures _ c.end_of.result c.in_ok-ok_or.field-0 _ (sym c.in_ok-all_usable.ensures) c.end_of.ensures c.in_ok-ok_or.ensures.ok_part refl refl refl refl c.plan_len.ensures.stored

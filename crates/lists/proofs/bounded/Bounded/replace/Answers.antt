@@ -1,13 +1,18 @@
--- The item was written to its place.
-use Rattle.std.proofs.Common.{◌≡◌, take, Some, slice_get, rules}
-use Rattle.std.proofs.lemmas.Option.{slice_get_within}
-use Rattle.lists.proofs.Front.{take-set}
+-- The item was written to its place; past the end there is nothing to write to.
+use Rattle.std.proofs.Common.{◌≡◌, ◌≤◌, length, Some, slice_get, sym, refl, rules}
+use Rattle.std.proofs.lemmas.List.{set_past}
+use Rattle.std.proofs.lemmas.Option.{slice_get_past}
+use Rattle.lists.specs.Held.{list_of}
+use Rattle.lists.proofs.Lent.{list_of-with_item}
 use Rattle.lists.proofs.bounded.Bounded.replace.Goals as goal
+
+pub returns-in_err-get_mut : goal.returns-in_err-get_mut
+returns-in_err-get_mut g c =
+    let past : length (list_of c.args.self.now) ≤ c.args.place = search rules in
+    (search (rules, slice_get_past), sym (set_past (list_of c.args.self.now) c.args.place c.args.item past), λ _. refl)
 
 pub returns : goal.returns
 returns g c =
-    let n = c.args.self.now.length in
-    let xs = c.args.self.now.items in
-    let i = c.args.place in
-    let there : slice_get (take n xs) i ≡ Some c.in_ok-before.before = search rules in
-    (slice_get_within (take n xs) i _ there, there, take-set n xs i c.args.item)
+    let there : Some c.replace.result ≡ slice_get (list_of c.args.self.now) c.args.place = search rules in
+    let stored : c.replace.new.dest ≡ c.args.item = search rules in
+    (there, rw stored (list_of-with_item c.args.self.now c.args.place c.args.item), search rules)

@@ -1,26 +1,18 @@
--- A free cell adds one, a wall nothing.
-use Rattle.std.proofs.Common.{◌*◌, ◌<◌, sym, arith}
+-- The free cells in front are counted.
+use Rattle.std.proofs.Common.{◌≡◌, ◌*◌, rules, take, sym, ap, ◌∙◌, arith}
+use Rattle.std.proofs.lemmas.List.{take-take}
+use Rattle.std.specs.List.{count_by}
+use Rattle.std.proofs.iter.runs.Made.{chains}
 use Rattle.trays.specs.Held.{grid_of}
-use Rattle.trays.specs.Valid.{held_size}
-use Rattle.trays.proofs.Counting.{pose_none, passed_free, passed_wall}
+use Rattle.trays.specs.Valid.{held_index}
+use Rattle.trays.specs.Tray.{pose_at}
+use Rattle.trays.proofs.Counting.{pose_count}
 use Rattle.trays.proofs.tray.Tray.pose_at.Goals as goal
-use Rattle.trays.proofs.tray.Tray.pose_at.Goals.{then-self-i, else-self-i}
 
-pub loop-i-init : goal.loop-i-init
-loop-i-init c = (sym (pose_none (grid_of c.args.self.now).cells), omega arith)
-
-pub bounds-self-i : goal.bounds-self-i
-bounds-self-i c = omega (arith, held_size c.args.self.now)
-
-pub loop-i-preserved : goal.loop-i-preserved
-loop-i-preserved c =
+pub returns : goal.returns
+returns c =
     let t = c.args.self.now in
-    let inside : c.loop-i.i < t.rows * t.columns = omega arith in
-    elim c.if-self-i.branch [
-      | then-self-i w ↦
-          let more = passed_free c.args.self.now c.loop-i.i inside w.if-self-i.true in
-          (omega (arith, more, w.seen-is, c.loop-i.invariant.0), omega (arith, w.seen-is, c.loop-i.invariant.1))
-      | else-self-i w ↦
-          let same = passed_wall c.args.self.now c.loop-i.i inside w.if-self-i.false in
-          (omega (arith, same, w.seen-is, c.loop-i.invariant.0), omega (arith, w.seen-is, c.loop-i.invariant.1))
-    ]
+    let i = c.index_of.result in
+    let counted : c.count.result ≡ count_by (λ x. x) (take i t.cells) = search (rules, chains) in
+    let inside = held_index t c.args.cell.row c.args.cell.column c.requires.row_in c.requires.column_in in
+    counted ∙ ap (count_by (λ x. x)) (sym (take-take i (t.rows * t.columns) t.cells (omega arith))) ∙ sym (pose_count (grid_of t).cells i) ∙ ap (pose_at (grid_of t).cells) c.index_of.ensures
