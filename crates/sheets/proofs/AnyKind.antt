@@ -1,6 +1,5 @@
 -- The kind byte chooses the format; so sheets of any kind are spelled in one way, as those of each kind are.
-use Rattle.std.proofs.Common.{◌≡◌, ℕ, ◌-◌, Bool, true, false, cond, eqb, List, [], ◌∷◌, length, get_or, take, drop, Ok, Err, Result, sym, refl, ap, ◌∙◌, subst, arith}
-use Rattle.std.proofs.lemmas.List.{take_rest}
+use Rattle.std.proofs.Common.{◌≡◌, ℕ, Bool, true, false, cond, eqb, List, [], ◌∷◌, Ok, Err, Result, sym, refl, ap, subst, arith}
 use Rattle.std.proofs.lemmas.Bool.{eqb-true}
 use Rattle.refusals.specs.declared.Fault.{Fault}
 use Rattle.numbers.specs.Format.{OneSheet}
@@ -11,28 +10,6 @@ use Rattle.squeeze.proofs.Sheets as squeeze
 use Rattle.trays.proofs.Format as trays
 use Rattle.gates.proofs.Sheets as gates
 use Rattle.sheets.specs.Described.{Described, Keeps, described, spelled, on_ok, jaws, tray, row}
-
--- what stands after the kind byte, as code reads it
-fields_rest : (b : ℕ) (rest : List ℕ) → take (length (b ∷ rest) - 1) (drop 1 (b ∷ rest)) ≡ rest
-fields_rest b rest = take_rest (b ∷ rest) 1
-
-pub squeeze_kind : (sheet : List ℕ) → get_or sheet 0 0 ≡ 1 → on_ok jaws (squeeze_fields sheet (take (length sheet - 1) (drop 1 sheet))) ≡ described sheet
-squeeze_kind [] h = let z : ⊥ = omega arith in absurd z
-squeeze_kind (b ∷ rest) h =
-    ap (λ r. on_ok jaws (squeeze_fields (b ∷ rest) r)) (fields_rest b rest)
-    ∙ subst (λ (x : ℕ). on_ok jaws (squeeze_fields (x ∷ rest) rest) ≡ described (x ∷ rest)) (sym h) refl
-
-pub tray_kind : (sheet : List ℕ) → get_or sheet 0 0 ≡ 2 → on_ok tray (tray_fields sheet (take (length sheet - 1) (drop 1 sheet))) ≡ described sheet
-tray_kind [] h = let z : ⊥ = omega arith in absurd z
-tray_kind (b ∷ rest) h =
-    ap (λ r. on_ok tray (tray_fields (b ∷ rest) r)) (fields_rest b rest)
-    ∙ subst (λ (x : ℕ). on_ok tray (tray_fields (x ∷ rest) rest) ≡ described (x ∷ rest)) (sym h) refl
-
-pub gates_kind : (sheet : List ℕ) → get_or sheet 0 0 ≡ 3 → on_ok row (gate_fields sheet (take (length sheet - 1) (drop 1 sheet))) ≡ described sheet
-gates_kind [] h = let z : ⊥ = omega arith in absurd z
-gates_kind (b ∷ rest) h =
-    ap (λ r. on_ok row (gate_fields (b ∷ rest) r)) (fields_rest b rest)
-    ∙ subst (λ (x : ℕ). on_ok row (gate_fields (x ∷ rest) rest) ≡ described (x ∷ rest)) (sym h) refl
 
 on_ok_only : {X Y : Type 0} (f : X → Y) (x : Result X Fault) (y : Y) → on_ok f x ≡ Ok y → (s : X) × (x ≡ Ok s) × (f s ≡ y)
 on_ok_only f (Ok s) y h = (s, refl, cc)
