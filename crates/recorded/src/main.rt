@@ -1,38 +1,10 @@
 // Writes plans as records, reads them back and prints both; then records at the ends of each limit, good and refused.
 #![tactic(auto)]
 
-ghost use Rattle.std.specs.Prelude.{◌≡◌};
-ghost use Rattle.records.specs.Contents.{plan_with};
-ghost use Rattle.records.specs.Held.{contents_of};
-
 use records::Record;
 use refusals::Refusal;
 use scripts::fault_line;
 use std::io;
-
-// What a record of that plan tells.
-fn plan<'a>(poses: u32, actions: u32, end: u32, list: &'a [u8]) -> Record<'a>
-    ensures { contents_of result ≡ plan_with poses actions end list.now }
-{
-    Record {
-        poses,
-        actions,
-        end,
-        list,
-    }
-}
-
-// Prints what a record tells.
-fn print_plan(rt: &HostRuntime, plan: Record) -> io::Result<()> {
-    let poses = plan.poses;
-    let actions = plan.actions;
-    let end = plan.end;
-    print!(rt; "{poses} poses, {actions} actions, end pose {end}, plan")?;
-    for action in plan.list {
-        print!(rt; " {action}")?;
-    }
-    Ok(())
-}
 
 // Reads a record, and prints the bytes and what comes of them.
 fn show(rt: &HostRuntime, bytes: &[u8]) -> io::Result<()> {
@@ -40,30 +12,24 @@ fn show(rt: &HostRuntime, bytes: &[u8]) -> io::Result<()> {
         print!(rt; "{byte:02X} ")?;
     }
     print!(rt; "= ")?;
-    match records::read(bytes) {
-        Ok(plan) => {
-            print_plan(rt, plan)?;
-            println!(rt; "")
-        }
+    match Record::read(bytes) {
+        Ok(record) => println!(rt; "{record}"),
         Err(fault) => {
-            let reader = fault.reader;
-            print!(rt; "{reader:?} ")?;
+            print!(rt; "{:?} ", fault.reader)?;
             rt.print(fault_line(rt.alloc(), fault)?)
         }
     }
 }
 
 fn print_refusal(rt: &HostRuntime, refusal: Refusal) -> io::Result<()> {
-    let number = refusal.number();
-    println!(rt; "refused with {number}")
+    println!(rt; "refused with {}", u8::from(refusal))
 }
 
-// Writes a plan's record into nine bytes, and reads it back.
-fn write_and_show(rt: &HostRuntime, plan: Record) -> io::Result<()> {
-    print_plan(rt, plan)?;
-    print!(rt; ": ")?;
+// Writes a record into nine bytes, and reads it back.
+fn write_and_show(rt: &HostRuntime, record: Record) -> io::Result<()> {
+    print!(rt; "{record}: ")?;
     let mut buffer = [0; 9];
-    match records::write(plan.poses, plan.actions, plan.end, plan.list, &mut buffer) {
+    match record.write(&mut buffer) {
         Ok(length) => {
             println!(rt; "{length} bytes")?;
             show(rt, &buffer[0..length])
@@ -73,70 +39,92 @@ fn write_and_show(rt: &HostRuntime, plan: Record) -> io::Result<()> {
 }
 
 fn written(rt: &HostRuntime) -> io::Result<()> {
-    write_and_show(rt, plan(3, 2, 0, &[1, 0, 0, 1]))?;
-    write_and_show(rt, plan(1, 1, 0, &[]))?;
-    write_and_show(rt, plan(32, 32, 31, &[31]))?;
-    write_and_show(rt, plan(0, 2, 0, &[]))?;
-    write_and_show(rt, plan(33, 2, 0, &[]))?;
-    write_and_show(rt, plan(3, 0, 0, &[]))?;
-    write_and_show(rt, plan(3, 33, 0, &[]))?;
-    write_and_show(rt, plan(259, 2, 0, &[]))?;
-    write_and_show(rt, plan(3, 2, 3, &[]))?;
-    write_and_show(rt, plan(3, 2, 2, &[0, 2]))?;
-    write_and_show(rt, plan(3, 2, 2, &[0, 0, 0, 0, 0]))
+    let plans: [(u32, u32, u32, &[u8]); 11] = [
+        (3, 2, 0, &[1, 0, 0, 1]),
+        (1, 1, 0, &[]),
+        (32, 32, 31, &[31]),
+        (0, 2, 0, &[]),
+        (33, 2, 0, &[]),
+        (3, 0, 0, &[]),
+        (3, 33, 0, &[]),
+        (259, 2, 0, &[]),
+        (3, 2, 3, &[]),
+        (3, 2, 2, &[0, 2]),
+        (3, 2, 2, &[0, 0, 0, 0, 0]),
+    ];
+    for (poses, actions, end, list) in plans {
+        let record = Record {
+            poses,
+            actions,
+            end,
+            list,
+        };
+        write_and_show(rt, record)?;
+    }
+    Ok(())
 }
 
 fn refused(rt: &HostRuntime) -> io::Result<()> {
-    show(rt, &[])?;
-    show(rt, &[3, 3])?;
-    show(rt, &[4])?;
-    show(rt, &[4, 0])?;
-    show(rt, &[4, 33])?;
-    show(rt, &[4, 3])?;
-    show(rt, &[4, 3, 0])?;
-    show(rt, &[4, 3, 33])?;
-    show(rt, &[4, 3, 2])?;
-    show(rt, &[4, 3, 2, 3])?;
-    show(rt, &[4, 3, 2, 32])?;
-    show(rt, &[4, 3, 2, 2])?;
-    show(rt, &[4, 3, 2, 2, 1])?;
-    show(rt, &[4, 3, 2, 2, 1, 2])?;
-    show(rt, &[4, 3, 2, 2, 1, 33, 32])?;
-    show(rt, &[4, 3, 2, 2, 32, 32])?;
-    show(rt, &[4, 3, 2, 2, 1, 32, 7, 7])
+    let records: [&[u8]; 17] = [
+        &[],
+        &[3, 3],
+        &[4],
+        &[4, 0],
+        &[4, 33],
+        &[4, 3],
+        &[4, 3, 0],
+        &[4, 3, 33],
+        &[4, 3, 2],
+        &[4, 3, 2, 3],
+        &[4, 3, 2, 32],
+        &[4, 3, 2, 2],
+        &[4, 3, 2, 2, 1],
+        &[4, 3, 2, 2, 1, 2],
+        &[4, 3, 2, 2, 1, 33, 32],
+        &[4, 3, 2, 2, 32, 32],
+        &[4, 3, 2, 2, 1, 32, 7, 7],
+    ];
+    for bytes in records {
+        show(rt, bytes)?;
+    }
+    Ok(())
 }
 
 // Prints how long the plan of a record is, or its fault.
 fn show_length(rt: &HostRuntime, bytes: &[u8]) -> io::Result<()> {
-    let length = bytes.len();
-    print!(rt; "{length} bytes = ")?;
-    match records::read(bytes) {
-        Ok(record) => {
-            let count = record.list.len();
-            println!(rt; "plan of {count} actions")
-        }
+    print!(rt; "{} bytes = ", bytes.len())?;
+    match Record::read(bytes) {
+        Ok(record) => println!(rt; "plan of {} actions", record.list.len()),
         Err(fault) => rt.print(fault_line(rt.alloc(), fault)?),
     }
 }
 
-// Plans of 16,384 actions and of one more, each of them action 0.
+// Writes the plan of these actions, each of them action 0, and prints how long the plan of its record is.
+fn write_and_show_length(rt: &HostRuntime, list: &[u8], buffer: &mut [u8]) -> io::Result<()> {
+    let record = Record {
+        poses: 1,
+        actions: 1,
+        end: 0,
+        list,
+    };
+    match record.write(buffer) {
+        Ok(length) => show_length(rt, &buffer[0..length]),
+        Err(refusal) => print_refusal(rt, refusal),
+    }
+}
+
+// Plans of 16,384 actions and of one more.
 fn long(rt: &HostRuntime) -> io::Result<()> {
     let list = [0; 16385];
     let mut buffer = [0; 16390];
-    match records::write(1, 1, 0, &list[0..16384], &mut buffer) {
-        Ok(length) => show_length(rt, &buffer[0..length])?,
-        Err(refusal) => print_refusal(rt, refusal)?,
-    }
+    write_and_show_length(rt, &list[0..16384], &mut buffer)?;
     show_length(rt, &buffer[0..16388])?;
     buffer[16388] = 1;
     show_length(rt, &buffer)?;
     buffer[16388] = 0;
     buffer[16389] = 32;
     show_length(rt, &buffer)?;
-    match records::write(1, 1, 0, &list, &mut buffer) {
-        Ok(length) => show_length(rt, &buffer[0..length]),
-        Err(refusal) => print_refusal(rt, refusal),
-    }
+    write_and_show_length(rt, &list, &mut buffer)
 }
 
 fn main(rt: HostRuntime) -> io::Result<()> {

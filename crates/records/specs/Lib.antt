@@ -4,3 +4,4 @@ pub mod Reading
 pub mod Laws
 pub mod Held
 pub mod Writing
+pub mod Printing

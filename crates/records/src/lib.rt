@@ -1,6 +1,7 @@
 // Plan records: one record for each plan.
 #![tactic(auto)]
 
+mod printing;
 mod reading;
 mod writing;
 

@@ -44,64 +44,67 @@ abbrev pub after_begin : List ℕ → ℕ → ℕ → ℕ → List Step → List
 after_begin whole ticks k left read here b rest =
     tested (follows read b) OutOfOrder whole here (number whole rest (after_rest whole ticks k left read b rest))
 
-pub begin_takes : (end ticks k left : ℕ) (read : List Step) (before after : Fields) (r : Result ℕ Fault) → end ≡ ticks → Takes (below_at end) before after r
-    → steps_left (whole_of before) ticks k (suc left) read (rest_of before) ≡ and_then r (λ b. after_begin (whole_of before) ticks k left read (rest_of before) b (rest_of after))
-begin_takes end ticks k left read before after r is t =
-    field_takes (λ b. ltb b ticks) OutsideLimit (whole_of before) before after r (after_begin (whole_of before) ticks k left read (rest_of before)) refl (takes_below end ticks before after r is t)
+module _ (end ticks left : ℕ) (read : List Step) (is : end ≡ ticks) (f₀ f₁ : Fields) where
+  pub begin_takes : (r : Result ℕ Fault) → Takes (below_at end) f₀ f₁ r → (k : ℕ) → steps_left (whole_of f₀) ticks k (suc left) read (rest_of f₀) ≡ and_then r (λ b. after_begin (whole_of f₀) ticks k left read (rest_of f₀) b (rest_of f₁))
+  begin_takes r h k =
+      field_takes (λ b. ltb b ticks) OutsideLimit (whole_of f₀) f₀ f₁ r (after_begin (whole_of f₀) ticks k left read (rest_of f₀)) refl (takes_below end ticks f₀ f₁ r is h)
 
-pub rest_takes : (whole here : List ℕ) (ticks k left : ℕ) (read : List Step) (b : ℕ) (before after : Fields) (r : Result ℕ Fault) → follows read b ≡ true → whole_of before ≡ whole → Takes number_in before after r
-    → after_begin whole ticks k left read here b (rest_of before) ≡ and_then r (λ s. after_rest whole ticks k left read b (rest_of before) s (rest_of after))
-rest_takes whole here ticks k left read b before after r f same t =
-    tested_true (follows read b) OutOfOrder whole here _ f
-    ∙ number_takes whole before after r (after_rest whole ticks k left read b (rest_of before)) same t
+  pub rest_takes : (b : ℕ) → Takes (below_at end) f₀ f₁ (Ok b) → true ≡ follows read b → (f₂ : Fields) (r : Result ℕ Fault) → Takes number_in f₁ f₂ r → (k : ℕ) → steps_left (whole_of f₀) ticks k (suc left) read (rest_of f₀) ≡ and_then r (λ s. after_rest (whole_of f₀) ticks k left read b (rest_of f₁) s (rest_of f₂))
+  rest_takes b h above f₂ r g k =
+      begin_takes (Ok b) h k ∙ tested_true (follows read b) OutOfOrder (whole_of f₀) (rest_of f₀) _ (sym above)
+      ∙ number_takes (whole_of f₀) f₁ f₂ r (after_rest (whole_of f₀) ticks k left read b (rest_of f₁)) h.1 g
 
 -- the next step, where `left` come after it
 pub step_takes : (whole : List ℕ) (ticks left : ℕ) (n : ℕ) (now read : List Step) (before after : Fields) (r : Result Step Fault) → n ≡ suc left → now ≡ read → whole_of before ≡ whole → TakesStep ticks left now before after r
     → (k : ℕ) → steps_left whole ticks k n read (rest_of before) ≡ and_then r (λ s. steps_left whole ticks k left (read ++ (s ∷ [])) (rest_of after))
 step_takes whole ticks left n now read before after r one is same t k =
-    ap (λ m. steps_left whole ticks k m read (rest_of before)) one
-    ∙ ap (λ ss. steps_left whole ticks k (suc left) ss (rest_of before)) (sym is)
-    ∙ ap (λ w. steps_left w ticks k (suc left) now (rest_of before)) (sym same)
-    ∙ t.goes_on k
-    ∙ ap (λ w. and_then r (λ s. steps_left w ticks k left (now ++ (s ∷ [])) (rest_of after))) same
-    ∙ ap (λ ss. and_then r (λ s. steps_left whole ticks k left (ss ++ (s ∷ [])) (rest_of after))) is
+    let P : List ℕ → List Step → Type 0 = λ w ss. steps_left w ticks k (suc left) ss (rest_of before) ≡ and_then r (λ s. steps_left w ticks k left (ss ++ (s ∷ [])) (rest_of after)) in
+    rw one (subst (λ (ss : List Step). P whole ss) is (subst (λ (w : List ℕ). P w now) same (t.goes_on k)))
 
--- the turns after the steps, and the end after the turns
-pub steps_then : (whole : List ℕ) (ticks count : ℕ) (before after : Fields) (r : Result (Bounded Step 32) Fault) → whole_of before ≡ whole → TakesSteps ticks count before after r
-    → (k : ℕ) → steps_left whole ticks k count [] (rest_of before) ≡ and_then r (λ ss. turns_left whole ticks (list_of ss) k [] (rest_of after))
-steps_then whole ticks count before after r same t k =
-    subst (λ (w : List ℕ). steps_left w ticks k count [] (rest_of before) ≡ and_then r (λ ss. turns_left w ticks (list_of ss) k [] (rest_of after))) same (t.goes_on k)
-
-pub turns_then : (whole : List ℕ) (ticks count : ℕ) (before after : Fields) (r : Result (Bounded ℕ 32) Fault) → whole_of before ≡ whole → TakesTurns ticks count before after r
-    → (steps : List Step) → turns_left whole ticks steps count [] (rest_of before) ≡ and_then r (λ rs. ended whole (rest_of after) (record { ticks = ticks; steps = steps; turns = list_of rs }))
-turns_then whole ticks count before after r same t steps =
-    subst (λ (w : List ℕ). turns_left w ticks steps count [] (rest_of before) ≡ and_then r (λ rs. ended w (rest_of after) (record { ticks = ticks; steps = steps; turns = list_of rs }))) same (t.goes_on steps)
-
-ended_by : (whole rest : List ℕ) (t : Squeeze) → ended whole rest t ≡ and_then (ended whole rest (tt {0})) (λ u. Ok t)
-ended_by whole [] t = refl
-ended_by whole (b ∷ rest) t = refl
-
-pub ended_then : (whole : List ℕ) (at : Fields) (t : Squeeze) (r : Result (Unit {0}) Fault) → whole_of at ≡ whole → r ≡ ended (whole_of at) (rest_of at) (tt {0}) → ended whole (rest_of at) t ≡ and_then r (λ u. Ok t)
-ended_then whole at t r same is =
-    ap (λ w. ended w (rest_of at) t) (sym same) ∙ ended_by (whole_of at) (rest_of at) t ∙ ap (λ q. and_then q (λ u. Ok t)) (sym is)
-
--- the three numbers in front of the steps
+-- what is described by the three numbers in front of the steps, and what follows them
 abbrev pub after_step_count : List ℕ → ℕ → ℕ → List ℕ → Result Squeeze Fault
 after_step_count whole ticks m rest = number whole rest (λ k r. tested (within 1 32 k) OutsideLimit whole rest (steps_left whole ticks k m [] r))
 
 abbrev pub after_ticks : List ℕ → ℕ → List ℕ → Result Squeeze Fault
 after_ticks whole ticks rest = number whole rest (λ m r. tested (within 1 32 m) OutsideLimit whole rest (after_step_count whole ticks m r))
 
-module _ (before : Fields) where
-  abbrev whole : List ℕ
-  whole = whole_of before
+ended_by : (whole rest : List ℕ) (t : Squeeze) → ended whole rest t ≡ and_then (ended whole rest (tt {0})) (λ u. Ok t)
+ended_by whole [] t = refl
+ended_by whole (b ∷ rest) t = refl
 
-  pub ticks_then : (after : Fields) (r : Result ℕ Fault) → Takes (limited_at 2 36000) before after r → squeeze_fields whole (rest_of before) ≡ and_then r (λ t. after_ticks whole t (rest_of after))
-  ticks_then after r h = field_takes (within 2 36000) OutsideLimit whole before after r (after_ticks whole) refl h
+module _ (f₀ f₁ : Fields) where
+  pub ticks_then : (r : Result ℕ Fault) → Takes (limited_at 2 36000) f₀ f₁ r → squeeze_fields (whole_of f₀) (rest_of f₀) ≡ and_then r (λ t. after_ticks (whole_of f₀) t (rest_of f₁))
+  ticks_then r h = field_takes (within 2 36000) OutsideLimit (whole_of f₀) f₀ f₁ r (after_ticks (whole_of f₀)) refl h
 
-  pub step_count_then : (at after : Fields) (t : ℕ) (r : Result ℕ Fault) → Takes (limited_at 2 36000) before at (Ok t) → Takes (limited_at 1 32) at after r → squeeze_fields whole (rest_of before) ≡ and_then r (λ m. after_step_count whole t m (rest_of after))
-  step_count_then at after t r h₁ h₂ = ticks_then at (Ok t) h₁ ∙ field_takes (within 1 32) OutsideLimit whole at after r (after_step_count whole t) h₁.1 h₂
+module _ (f₀ f₁ f₂ : Fields) (t : ℕ) (h₁ : Takes (limited_at 2 36000) f₀ f₁ (Ok t)) where
+  pub step_count_then : (r : Result ℕ Fault) → Takes (limited_at 1 32) f₁ f₂ r → squeeze_fields (whole_of f₀) (rest_of f₀) ≡ and_then r (λ m. after_step_count (whole_of f₀) t m (rest_of f₂))
+  step_count_then r h = ticks_then f₀ f₁ (Ok t) h₁ ∙ field_takes (within 1 32) OutsideLimit (whole_of f₀) f₁ f₂ r (after_step_count (whole_of f₀) t) h₁.1 h
 
-  pub turn_count_then : (at by after : Fields) (t m : ℕ) (r : Result ℕ Fault) → Takes (limited_at 2 36000) before at (Ok t) → Takes (limited_at 1 32) at by (Ok m) → Takes (limited_at 1 32) by after r → squeeze_fields whole (rest_of before) ≡ and_then r (λ k. steps_left whole t k m [] (rest_of after))
-  turn_count_then at by after t m r h₁ h₂ h₃ =
-      step_count_then at by t (Ok m) h₁ h₂ ∙ field_takes (within 1 32) OutsideLimit whole by after r (λ k rest. steps_left whole t k m [] rest) (h₂.1 ∙ h₁.1) h₃
+module _ (f₀ f₁ f₂ f₃ : Fields) (t m : ℕ) (h₁ : Takes (limited_at 2 36000) f₀ f₁ (Ok t)) (h₂ : Takes (limited_at 1 32) f₁ f₂ (Ok m)) where
+  pub turn_count_then : (r : Result ℕ Fault) → Takes (limited_at 1 32) f₂ f₃ r → squeeze_fields (whole_of f₀) (rest_of f₀) ≡ and_then r (λ k. steps_left (whole_of f₀) t k m [] (rest_of f₃))
+  turn_count_then r h =
+      step_count_then f₀ f₁ f₂ t h₁ (Ok m) h₂
+      ∙ field_takes (within 1 32) OutsideLimit (whole_of f₀) f₂ f₃ r (λ k rest. steps_left (whole_of f₀) t k m [] rest) (h₂.1 ∙ h₁.1) h
+
+  -- then come the steps, the turns and the end
+  module _ (k : ℕ) (h₃ : Takes (limited_at 1 32) f₂ f₃ (Ok k)) (f₄ : Fields) where
+    same : whole_of f₃ ≡ whole_of f₀
+    same = h₃.1 ∙ h₂.1 ∙ h₁.1
+
+    pub steps_then : (r : Result (Bounded Step 32) Fault) → TakesSteps t m f₃ f₄ r → squeeze_fields (whole_of f₀) (rest_of f₀) ≡ and_then r (λ ss. turns_left (whole_of f₀) t (list_of ss) k [] (rest_of f₄))
+    steps_then r h =
+        turn_count_then (Ok k) h₃
+        ∙ subst (λ (w : List ℕ). steps_left w t k m [] (rest_of f₃) ≡ and_then r (λ ss. turns_left w t (list_of ss) k [] (rest_of f₄))) same (h.goes_on k)
+
+    module _ (ss : Bounded Step 32) (h₄ : TakesSteps t m f₃ f₄ (Ok ss)) (f₅ : Fields) where
+      pub turns_then : (r : Result (Bounded ℕ 32) Fault) → TakesTurns t k f₄ f₅ r → squeeze_fields (whole_of f₀) (rest_of f₀) ≡ and_then r (λ rs. ended (whole_of f₀) (rest_of f₅) (record { ticks = t; steps = list_of ss; turns = list_of rs }))
+      turns_then r h =
+          steps_then (Ok ss) h₄
+          ∙ subst (λ (w : List ℕ). turns_left w t (list_of ss) k [] (rest_of f₄) ≡ and_then r (λ rs. ended w (rest_of f₅) (record { ticks = t; steps = list_of ss; turns = list_of rs }))) (h₄.whole ∙ same) (h.goes_on (list_of ss))
+
+      pub ended_then : (rs : Bounded ℕ 32) (r : Result (Unit {0}) Fault) → TakesTurns t k f₄ f₅ (Ok rs) → r ≡ ended (whole_of f₅) (rest_of f₅) (tt {0}) → squeeze_fields (whole_of f₀) (rest_of f₀) ≡ and_then r (λ u. Ok (record { ticks = t; steps = list_of ss; turns = list_of rs }))
+      ended_then rs r h e =
+          turns_then (Ok rs) h
+          ∙ ap (λ w. ended w (rest_of f₅) (record { ticks = t; steps = list_of ss; turns = list_of rs })) (sym (h.whole ∙ h₄.whole ∙ same))
+          ∙ ended_by (whole_of f₅) (rest_of f₅) _
+          ∙ ap (λ q. and_then q (λ u. Ok (record { ticks = t; steps = list_of ss; turns = list_of rs }))) (sym e)
