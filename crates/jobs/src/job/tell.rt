@@ -67,7 +67,13 @@ impl<F: Feeder> Job<F> {
         let end = self.end_pose().ok_or(Refusal::NoPlan)?;
         let poses = self.feeder.poses();
         let actions = self.feeder.actions();
-        records::write(poses, actions, end, list, buffer)
+        let record = Record {
+            poses,
+            actions,
+            end,
+            list,
+        };
+        record.write(buffer)
     }
 
     // Writes a row for the start and one for each action of the plan to the front of the buffer, and answers the plan's length.
