@@ -1,2 +1,3 @@
-pub mod Levels
 pub mod Searches
+pub mod Sweeps
+pub mod Triangle

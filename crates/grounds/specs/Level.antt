@@ -1,5 +1,5 @@
 -- What the search for distances keeps, level by level.
-use Rattle.std.specs.Prelude.{◌≡◌, ℕ, suc, ◌<◌, ◌≤◌, Bool, T, ◌⊎◌, List, length, true, false, Some, None, Option, ◌≢◌}
+use Rattle.std.specs.Prelude.{◌≡◌, ℕ, suc, ◌<◌, ◌≤◌, cond, nat_lt, Bool, T, ◌⊎◌, List, length, true, false, Some, None, Option, ◌≢◌}
 use Rattle.graphs.specs.Graph.{Graph}
 use Rattle.graphs.specs.Distance.{Usable, Leads, Distance}
 use Rattle.graphs.specs.Certificate.{Passes, none, told}
@@ -24,23 +24,22 @@ abbrev pub Swept : Graph → ℕ → ℕ → Bool → List ℕ → Type 0
 Swept g s d true table = Level g s (suc d) table
 Swept g s d false table = Passes g s table
 
--- The goals below k have entry 0, and no other node has one.
-pub record Marked (g : Graph) (k : ℕ) (table : List ℕ) : Type 0 where
-  pub goals : (v : ℕ) → v < k → T (g.goal v) → told table v ≡ 0
-  pub others : (v : ℕ) → (T (g.goal v) → ⊥) → told table v ≡ none
-  pub later : (v : ℕ) → k ≤ v → told table v ≡ none
+-- the first entry of v: 0 for a goal, and none for another node
+abbrev pub first_entry : Graph → ℕ → ℕ
+first_entry g v = cond (nat_lt v g.nodes) (cond (g.goal v) 0 none) none
 
--- a is the lowest usable label from v to a node with entry e
-pub record LabelTo (g : Graph) (s : ℕ) (table : List ℕ) (v e a : ℕ) : Type 0 where
-  pub usable : Usable g s a
-  pub leads : told table (g.next v a) ≡ e
-  pub lowest : (b : ℕ) → Usable g s b → told table (g.next v b) ≡ e → a ≤ b
+-- label a is usable and leads from v to a node with entry e
+abbrev pub LeadsTo : Graph → ℕ → List ℕ → ℕ → ℕ → ℕ → Type 0
+LeadsTo g s table v e a = Usable g s a × (told table (g.next v a) ≡ e)
 
--- no usable label leads from v to a node with entry e
-abbrev pub NoLabelTo : Graph → ℕ → List ℕ → ℕ → ℕ → Type 0
-NoLabelTo g s table v e = (b : ℕ) → Usable g s b → told table (g.next v b) ≢ e
-
--- what a look for such a label answers
+-- What a look for such a label answers: the lowest, or that there is none.
 abbrev pub LabelFound : Graph → ℕ → List ℕ → ℕ → ℕ → Option ℕ → Type 0
-LabelFound g s table v e (Some a) = LabelTo g s table v e a
-LabelFound g s table v e None = NoLabelTo g s table v e
+LabelFound g s table v e (Some a) = LeadsTo g s table v e a × ((b : ℕ) → LeadsTo g s table v e b → a ≤ b)
+LabelFound g s table v e None = (b : ℕ) → LeadsTo g s table v e b → ⊥
+
+-- Node v has no entry, and a usable label leads from it to entry d; or it has an entry, or no such label.
+abbrev pub IsNext : Graph → ℕ → List ℕ → ℕ → ℕ → Type 0
+IsNext g s table d v = (told table v ≡ none) × ((a : ℕ) × LeadsTo g s table v d a)
+
+abbrev pub IsNotNext : Graph → ℕ → List ℕ → ℕ → ℕ → Type 0
+IsNotNext g s table d v = told table v ≡ none → (b : ℕ) → LeadsTo g s table v d b → ⊥

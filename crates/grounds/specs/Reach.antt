@@ -21,6 +21,16 @@ abbrev pub StepsTo : Graph → ℕ → ℕ → Option (ℕ × ℕ) → Type 0
 StepsTo g s v (Some (a, u)) = (v < g.nodes) × ((e : ℕ) × Distance g s v (suc e) × First g s v e a) × (u ≡ g.next v a)
 StepsTo g s v None = (e : ℕ) → v < g.nodes → Distance g s v (suc e) → ⊥
 
+-- What a table says of v: its entry, if it has one.
+abbrev pub entry_of : List ℕ → ℕ → Option ℕ
+entry_of table v = cond (told table v == none) None (Some (told table v))
+
 -- What a table of so many nodes answers of v.
 abbrev pub distance_told : List ℕ → ℕ → ℕ → Result (Option ℕ) Refusal
-distance_told table nodes v = cond (nat_lt v nodes) (Ok (cond (told table v == none) None (Some (told table v)))) (Err NoPose)
+distance_told table nodes v = cond (nat_lt v nodes) (Ok (entry_of table v)) (Err NoPose)
+
+-- The distance of v, or that it has none; an absent node is refused.
+abbrev pub Away : Graph → ℕ → ℕ → Result (Option ℕ) Refusal → Type 0
+Away g s v (Err e) = (g.nodes ≤ v) × (e ≡ NoPose)
+Away g s v (Ok (Some d)) = (v < g.nodes) × Distance g s v d
+Away g s v (Ok None) = (v < g.nodes) × NoDistance g s v

@@ -3,13 +3,13 @@
 
 mod distances;
 mod ground;
+mod levels;
 mod pair_ground;
 mod pose_ground;
 mod reach;
 mod starts;
-mod steps;
 
-pub use distances::{Distances, first_label, measure};
+pub use distances::Distances;
 pub use ground::Ground;
 pub use pair_ground::PairGround;
 pub use pose_ground::PoseGround;

@@ -34,18 +34,6 @@ impl<'a, F: Feeder> PairGround<'a, F> {
     }
 }
 
-// The pose that follows, for a pose and an action that the feeder has.
-fn pose_after<F: Feeder>(feeder: &F, pose: u32, action: u32) -> u32
-    requires { (pose < (F.Feeder.motion feeder.now).poses) × (action < (F.Feeder.motion feeder.now).actions) }
-    ensures is { result ≡ (F.Feeder.motion feeder.now).next pose action }
-    ensures stays { result < (F.Feeder.motion feeder.now).poses }
-{
-    match feeder.follow(pose, action) {
-        Ok(next) => next,
-        Err(_) => unreachable(),
-    }
-}
-
 impl<'a, F: Feeder> Ground for PairGround<'a, F> {
     ghost graph = { λ g. pair_graph (F.Feeder.motion g.feeder.now) };
 
@@ -75,8 +63,8 @@ impl<'a, F: Feeder> Ground for PairGround<'a, F> {
         let p = node - start_of(q);
         Ok(node_of(
             n,
-            pose_after(self.feeder, p, label),
-            pose_after(self.feeder, q, label),
+            self.feeder.follow(p, label).unwrap(),
+            self.feeder.follow(q, label).unwrap(),
         ))
     }
 

@@ -2,9 +2,8 @@
 ghost use Rattle.graphs.specs.Laws.{DistanceLaws};
 ghost use Rattle.grounds.specs.Reach.{Reaches};
 
-use crate::distances::{first_label, measure};
+use crate::distances::Distances;
 use crate::ground::Ground;
-use crate::steps::at_goal;
 use refusals::Refusal;
 
 // What a search for the nearest goal finds.
@@ -19,22 +18,18 @@ pub enum Reach {
 }
 
 // How far the nearest goal is, and the first label of the way there; refuses an absent node.
+#[tactic(auto, using(crate::proofs::Searches::distance_laws))]
 pub fn search<G: Ground>(ground: &G, permitted: u32, node: u32) -> Result<Reach, Refusal>
     ensures answer { Reaches (G.Ground.graph ground.now) permitted node result }
     ensures laws { DistanceLaws }
 {
-    if node >= ground.nodes() {
-        return Err(Refusal::NoPose);
-    }
-    if at_goal(ground, node) {
+    if ground.is_goal(node)? {
         return Ok(Reach::Goal);
     }
-    let distances = measure(ground, permitted);
-    match first_label(ground, permitted, &distances, node) {
-        Some((label, _)) => Ok(Reach::Step {
-            distance: u32::from(distances.entry(node)),
-            label,
-        }),
-        None => Ok(Reach::Never),
-    }
+    let distances = Distances::measure(ground, permitted);
+    let Some(distance) = distances.distance(node)? else {
+        return Ok(Reach::Never);
+    };
+    let (label, _) = distances.first_label(node).unwrap();
+    Ok(Reach::Step { distance, label })
 }

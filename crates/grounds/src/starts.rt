@@ -34,12 +34,7 @@ pub(crate) fn upper_of(n: u32, node: u32) -> u32
     ensures begun { start result ≤ node }
     ensures lower { node < start result + result }
 {
-    for q in (0..n).rev() {
-        if start_of(q) <= node {
-            return q;
-        }
-    }
-    0
+    (STARTS[..n as usize].partition_point(|start| u32::from(*start) <= node) - 1) as u32
 }
 
 // The number of two poses of `n`, in any order; that of two that are the same comes after those of all pairs.

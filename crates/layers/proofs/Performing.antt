@@ -13,13 +13,13 @@ first : (m : Motion) (p : ℕ) (xs : List ℕ) (i : ℕ) → i < length xs → r
 first m p xs i h = at_drop_more (λ w. brings m p (present m.actions w)) xs i 0 h
 
 -- The two turns of the loop: p goes on to q, or stays, and what is left still leads to z.
-pub rest-performs : (m : Motion) (p a r q z : ℕ) (xs : List ℕ) (i : ℕ) → i < length xs → a ≡ get_or xs i 0 → a < m.actions → r ≡ m.next p a → q ≡ r → rest m p xs i ≡ z → rest m q xs (i + 1) ≡ z
-rest-performs m p a r q z xs i h e has moved same inv =
+pub rest-performs : (m : Motion) (p a q z : ℕ) (xs : List ℕ) (i : ℕ) → i < length xs → a ≡ get_or xs i 0 → a < m.actions → q ≡ m.next p a → rest m p xs i ≡ z → rest m q xs (i + 1) ≡ z
+rest-performs m p a q z xs i h e has moved inv =
     let x = get_or xs i 0 in
     let w = present m.actions (drop (i + 1) xs) in
     let one : rest m p xs i ≡ rest m (m.next p x) xs (i + 1) =
     first m p xs i h ∙ ap (brings m p) (cond-true (ltb x m.actions) (x ∷ w) w (lt-ltb x m.actions (omega arith))) in
-    ap (λ (y : ℕ). rest m y xs (i + 1)) (same ∙ moved ∙ ap (m.next p) e) ∙ sym one ∙ inv
+    ap (λ (y : ℕ). rest m y xs (i + 1)) (moved ∙ ap (m.next p) e) ∙ sym one ∙ inv
 
 pub rest-passes_over : (m : Motion) (p a q z : ℕ) (xs : List ℕ) (i : ℕ) → i < length xs → a ≡ get_or xs i 0 → m.actions ≤ a → q ≡ p → rest m p xs i ≡ z → rest m q xs (i + 1) ≡ z
 rest-passes_over m p a q z xs i h e lacks stayed inv =

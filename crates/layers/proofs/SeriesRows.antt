@@ -1,77 +1,73 @@
--- Rows of a series table: what a new table holds, and what one action more makes of it.
-use Rattle.std.proofs.Common.{◌≡◌, ℕ, ◌<◌, ◌≤◌, true, false, ltb, List, [], ◌∷◌, ◌++◌, map, length, get_or, take, set, replicate, Ok, Err, Result, sym, ap, ◌∙◌, subst, inl, inr, arith}
-use lib.LanesLaws.{map-replicate}
-use lib.Seq.{take-set-lt}
-use Rattle.std.proofs.lemmas.List.{get_or-set_same, get_or-set_other, get_or-replicate, take_more_set, take-replicate, map-set}
-use Rattle.std.proofs.lemmas.Bool.{cases_eq, lt-ltb, le-ltb, and_from, and_left, and_right, cond-true, cond-false}
-use Rattle.refusals.specs.declared.Refusal.{Refusal}
-use Rattle.refusals.specs.declared.Refusal.TheVariants.{OutsideLimit}
-use Rattle.layers.specs.Rows.{blank, empty, series_in, pushed}
-use Rattle.layers.specs.Held.{series_of, lengthens, lengthened, length-series_of, get_or-series_of, series_length}
-use Rattle.layers.specs.declared.row.Row.{Row}
-use Rattle.layers.specs.declared.series_table.SeriesTable.{SeriesTable}
+-- A row of a series table that has one action more at its end.
+use Rattle.std.proofs.Common.{◌≡◌, ℕ, ◌<◌, ◌≤◌, T, List, [], ◌∷◌, ◌++◌, map, length, get_or, set, slice_get, Some, Ok, ap, sym, subst, ◌∙◌, inl, inr, length-append, length-set, arith}
+use Rattle.std.proofs.lemmas.List.{length-map, map-set, get_or-map, get_or-set_same, get_or-set_other}
+use Rattle.std.proofs.lemmas.Bool.{cases_eq}
+use Rattle.std.proofs.lemmas.Bool.Decides.{nat_tests}
+use Rattle.std.proofs.lemmas.Option.{slice_get_within, get_or_from_slice_get}
+use Rattle.feeders.specs.Sets.{all_below}
+use Rattle.feeders.proofs.Sets.{all_below-append, all_below_one}
+use Rattle.lists.specs.Held.{list_of}
+use Rattle.lists.specs.Lends.{with_item}
+use Rattle.lists.specs.declared.bounded.Bounded.{Bounded}
+use Rattle.lists.proofs.Lent.{list_of-with_item}
+use Rattle.layers.specs.Series.{Keeps}
+use Rattle.layers.specs.Held.{lengthened}
 
--- ---- a new table
+-- ---- a list of series
 
--- what holds of one row holds of each row of a table made of it
-pub each_replicate : (P : Row → Type 0) (r : Row) → P r → (n i : ℕ) → i < n → P (get_or (replicate n r) i blank)
-each_replicate P r h n i lt = subst P (sym (get_or-replicate n i r blank lt)) h
-
-pub series_of_empty_rows : (n : ℕ) (r : Row) → r ≡ empty → n ≤ 16 → map series_in (take n (replicate 16 r)) ≡ replicate n []
-series_of_empty_rows n r e h =
-    ap (map series_in) (take-replicate n 16 r h) ∙ map-replicate series_in n r ∙ ap (λ (q : Row). replicate n (series_in q)) e
-
--- ---- one action more
-
--- what holds of each row and of a new one holds after the new one is put in the place of a row
-pub each_set : (P : Row → Type 0) (rows : List Row) (i : ℕ) (r : Row) (n : ℕ) → i < length rows → P r → ((j : ℕ) → j < n → P (get_or rows j blank)) → (j : ℕ) → j < n → P (get_or (set rows i r) j blank)
-each_set P rows i r n inside h each j lt =
+-- what holds of each series and of a new one holds after the new one is put in the place of one
+each_set : (P : List ℕ → Type 0) (ss : List (List ℕ)) (i : ℕ) (w : List ℕ) → i < length ss → P w → ((j : ℕ) → j < length ss → P (get_or ss j [])) → (j : ℕ) → j < length (set ss i w) → P (get_or (set ss i w) j [])
+each_set P ss i w inside h each j lt =
     elim (cases_eq j i) [
-      | inl e ↦ subst (λ (x : ℕ). P (get_or (set rows i r) x blank)) (sym e) (subst P (sym (get_or-set_same rows i r blank inside)) h)
-      | inr ne ↦ subst P (sym (get_or-set_other rows i j r blank ne)) (each j lt)
+      | inl e ↦ subst (λ (x : ℕ). P (get_or (set ss i w) x [])) (sym e) (subst P (sym (get_or-set_same ss i w [] inside)) h)
+      | inr ne ↦ subst P (sym (get_or-set_other ss i j w [] ne)) (each j (omega (arith, length-set ss i w)))
     ]
 
-pub pushed_entries : (r : Row) (a : ℕ) → r.length < length r.actions → a < 32 → ((k : ℕ) → k < 8 → get_or r.actions k 0 < 32) → (k : ℕ) → k < 8 → get_or (pushed r a).actions k 0 < 32
-pushed_entries r a inside small each k lt =
-    elim (cases_eq k r.length) [
-      | inl e ↦ subst (λ (x : ℕ). get_or (set r.actions r.length a) x 0 < 32) (sym e) (omega (arith, get_or-set_same r.actions r.length a 0 inside))
-      | inr ne ↦ omega (arith, get_or-set_other r.actions r.length k a 0 ne, each k lt)
-    ]
+keeps-longer : (ss : List (List ℕ)) (i a : ℕ) → i < length ss → a < 32 → length (get_or ss i []) < 8 → Keeps ss → Keeps (set ss i (get_or ss i [] ++ (a ∷ [])))
+keeps-longer ss i a there small room k =
+    let w = get_or ss i [] in
+    let longer = w ++ (a ∷ []) in
+    let short : length longer ≤ 8 = omega (arith, length-append w (a ∷ [])) in
+    let entries = (all_below-append 32 w (a ∷ [])).1 (k.entries i there, (all_below_one 32 a).1 small) in
+    record {
+      some = omega (arith, length-set ss i longer, k.some);
+      few = omega (arith, length-set ss i longer, k.few);
+      short = each_set (λ v. length v ≤ 8) ss i longer there short k.short;
+      entries = each_set (λ v. T (all_below 32 v)) ss i longer there entries k.entries;
+    }
 
--- ---- the answers of lengthen
+-- ---- the rows of a table
 
-pub lengthened_refuses : (ss : List (List ℕ)) (i a : ℕ) → lengthens ss i a ≡ false → lengthened ss i a ≡ Err OutsideLimit
-lengthened_refuses ss i a e = cond-false (lengthens ss i a) (Ok (set ss i (get_or ss i [] ++ (a ∷ [])))) (Err OutsideLimit) e
+pub row-is : {n m : ℕ} (rows : Bounded (Bounded ℕ n) m) (i : ℕ) (r : Bounded ℕ n) → slice_get (list_of rows) i ≡ Some r → get_or (map list_of (list_of rows)) i [] ≡ list_of r
+row-is rows i r there =
+    get_or-map list_of (list_of rows) i r [] (slice_get_within (list_of rows) i r there)
+    ∙ ap list_of (get_or_from_slice_get (list_of rows) i r r there)
 
-pub lengthens_no_series : (t : SeriesTable) (i a : ℕ) → t.count ≤ i → lengthens (series_of t) i a ≡ false
-lengthens_no_series t i a h =
-    let ss = series_of t in
-    and_left (ltb i (length ss)) _ (le-ltb i (length ss) (omega (arith, length-series_of t)))
+-- row i of a table is r, and is lent; s is what it is then, with a at its end
+module _ {n m : ℕ} (rows : Bounded (Bounded ℕ n) m) (i a : ℕ) (r s : Bounded ℕ n)
+    (there : slice_get (list_of rows) i ≡ Some r) (grown : list_of s ≡ list_of r ++ (a ∷ [])) (small : a < 32) (room : length (list_of r) < 8) where
+  abbrev before : List (List ℕ)
+  before = map list_of (list_of rows)
 
-pub lengthens_no_action : (ss : List (List ℕ)) (i a : ℕ) → 32 ≤ a → lengthens ss i a ≡ false
-lengthens_no_action ss i a h = and_right (ltb i (length ss)) _ (and_left (ltb a 32) _ (le-ltb a 32 h))
+  abbrev after : List (List ℕ)
+  after = map list_of (list_of (with_item rows i s))
 
-pub lengthens_no_ninth : (t : SeriesTable) (i a : ℕ) → i < t.count → 8 ≤ (get_or t.rows i blank).length → lengthens (series_of t) i a ≡ false
-lengthens_no_ninth t i a there h =
-    let ss = series_of t in
-    and_right (ltb i (length ss)) _ (and_right (ltb a 32) _ (le-ltb (length (get_or ss i [])) 8 (omega (arith, series_length t i there))))
+  inside : i < length before
+  inside = omega (arith, slice_get_within (list_of rows) i r there, length-map (list_of rows) list_of)
 
-pub lengthens_else : (t : SeriesTable) (i a : ℕ) → i < t.count → a < 32 → (get_or t.rows i blank).length < 8 → lengthens (series_of t) i a ≡ true
-lengthens_else t i a there small room =
-    let ss = series_of t in
-    and_from (ltb i (length ss)) _ (lt-ltb i (length ss) (omega (arith, length-series_of t)))
-    (and_from (ltb a 32) _ (lt-ltb a 32 small) (lt-ltb (length (get_or ss i [])) 8 (omega (arith, series_length t i there))))
+  short : length (get_or before i []) < 8
+  short = rw (row-is rows i r there) room
 
-pub lengthened_accepts : (t : SeriesTable) (i a : ℕ) (r : Row) → i < t.count → a < 32 → (get_or t.rows i blank).length < 8 → r ≡ pushed (get_or t.rows i blank) a → lengthened (series_of t) i a ≡ Ok (map series_in (take t.count (set t.rows i r)))
-lengthened_accepts t i a r there small room e =
-    let ss = series_of t in
-    let row = get_or t.rows i blank in
-    let longer : get_or ss i [] ++ (a ∷ []) ≡ series_in r =
-    ap (λ (w : List ℕ). w ++ (a ∷ [])) (get_or-series_of t i there)
-    ∙ sym (take_more_set row.actions row.length a (omega (arith, t.whole i there)))
-    ∙ ap series_in (sym e) in
-    let ok : List (List ℕ) → Result (List (List ℕ)) Refusal = λ w. Ok w in
-    let rows : set ss i (series_in r) ≡ map series_in (take t.count (set t.rows i r)) =
-    sym (ap (map series_in) (take-set-lt t.count t.rows i r there) ∙ map-set series_in (take t.count t.rows) i r) in
-    cond-true (lengthens ss i a) (Ok (set ss i (get_or ss i [] ++ (a ∷ [])))) (Err OutsideLimit) (lengthens_else t i a there small room)
-    ∙ ap ok (ap (λ (w : List ℕ). set ss i w) longer ∙ rows)
+  rows-longer : after ≡ set before i (get_or before i [] ++ (a ∷ []))
+  rows-longer =
+      ap (map list_of) (list_of-with_item rows i s) ∙ map-set list_of (list_of rows) i s
+      ∙ ap (set before i) (grown ∙ ap (λ l. l ++ (a ∷ [])) (sym (row-is rows i r there)))
+
+  pub keeps-after : Keeps before → Keeps after
+  keeps-after k = subst Keeps (sym rows-longer) (keeps-longer before i a inside small short k)
+
+  pub lengthened-is : lengthened before i a ≡ Ok after
+  lengthened-is =
+      let lt = inside in
+      let few = short in
+      let e = rows-longer in grind (arith, nat_tests, e)

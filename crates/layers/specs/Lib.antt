@@ -1,4 +1,3 @@
-pub mod Rows
 pub mod Series
 pub mod SeriesFacts
 pub mod Held

@@ -1,10 +1,8 @@
 // Layers: feeders over any feeder.
 #![tactic(auto)]
 
-mod moves;
 mod numbering;
 mod renumbering;
-mod row;
 mod series;
 mod series_table;
 

@@ -2,7 +2,7 @@
 ghost use Rattle.std.specs.Prelude.{◌≡◌, ℕ, ◌<◌, ◌≤◌, length, slice_index};
 
 mod calls;
-mod lists;
+mod filling;
 
 // The first `count` places hold each number below `count` once; every later place holds its own number.
 #[derive(Clone, Copy)]

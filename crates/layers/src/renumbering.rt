@@ -5,7 +5,6 @@ ghost use Rattle.layers.specs.Numbered.{numbering_of, numbering_kept};
 ghost use Rattle.layers.specs.Renumbering.{above as above_of, renumbered_motion, Renames};
 ghost use Rattle.layers.specs.RenumberingFacts.{renumbered_valid};
 
-use crate::moves::pose_after;
 use crate::numbering::RenumberTable;
 use feeders::Feeder;
 use refusals::Refusal;
@@ -51,7 +50,7 @@ impl<F: Feeder> Feeder for Renumbering<F> {
             return Err(Refusal::NoAction);
         }
         let from = self.table.below(poses, pose);
-        let to = pose_after(&self.below, from, action);
+        let to = self.below.follow(from, action).unwrap();
         Ok(self.table.above(poses, to))
     }
 }

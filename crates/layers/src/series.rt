@@ -1,11 +1,10 @@
 // A series layer: each of its actions performs a series of actions on the feeder below.
 ghost use Rattle.std.specs.Prelude.{◌≡◌, ◌<◌};
 ghost use Rattle.feeders.specs.Motion.{brings};
-ghost use Rattle.layers.specs.Held.{series_of, series_kept};
+ghost use Rattle.layers.specs.Held.{series_of};
 ghost use Rattle.layers.specs.Series.{present, series_motion, SeriesLaws};
 ghost use Rattle.layers.specs.SeriesFacts.{series_valid};
 
-use crate::moves::pose_after;
 use crate::series_table::SeriesTable;
 use feeders::Feeder;
 use refusals::Refusal;
@@ -30,7 +29,7 @@ impl<F: Feeder> Series<F> {
 impl<F: Feeder> Feeder for Series<F> {
     ghost motion = { λ s. series_motion (F.Feeder.motion s.below) (series_of s.table) };
 
-    ghost valid = { λ s. series_valid (F.Feeder.motion s.below) (series_of s.table) (F.Feeder.valid s.below) (series_kept s.table) };
+    ghost valid = { λ s. series_valid (F.Feeder.motion s.below) (series_of s.table) (F.Feeder.valid s.below) s.table.keeps };
 
     fn poses(&self) -> u32 {
         self.below.poses()
@@ -44,10 +43,8 @@ impl<F: Feeder> Feeder for Series<F> {
         if pose >= self.below.poses() {
             return Err(Refusal::NoPose);
         }
-        match self.table.series(action) {
-            Ok(series) => Ok(perform(&self.below, pose, series)),
-            Err(_) => Err(Refusal::NoAction),
-        }
+        let series = self.table.series(action).map_err(|_| Refusal::NoAction)?;
+        Ok(perform(&self.below, pose, series))
     }
 }
 
@@ -61,7 +58,7 @@ fn perform<F: Feeder>(feeder: &F, pose: u32, series: &[u8]) -> u32
     for entry in series {
         let action = u32::from(*entry);
         if action < actions {
-            here = pose_after(feeder, here, action);
+            here = feeder.follow(here, action).unwrap();
         }
     }
     here

@@ -1,19 +1,14 @@
-// A table of series: sixteen rows, of which the first `count` are in use.
-ghost use Rattle.std.specs.Prelude.{◌≡◌, ℕ, ◌<◌, ◌≤◌, length, slice_index, slice_index_or};
-ghost use Rattle.layers.specs.Rows.{blank};
+// A table of series: at most sixteen rows, each of at most eight actions of the feeder below.
+ghost use Rattle.std.specs.Prelude.{map};
+ghost use Rattle.lists.specs.Held.{list_of};
+ghost use Rattle.layers.specs.Series.{Keeps};
 
-use crate::row::Row;
+use lists::Bounded;
 
 mod calls;
 
 #[derive(Clone, Copy)]
 pub struct SeriesTable {
-    rows: [Row; 16],
-    count: u32,
-    ghost some: { 1 ≤ count },
-    ghost few: { count ≤ 16 },
-    ghost fits: { length rows ≡ 16 },
-    ghost short: { (i : ℕ) → i < count → (slice_index_or rows i blank).length ≤ 8 },
-    ghost whole: { (i : ℕ) → i < count → length (slice_index_or rows i blank).actions ≡ 8 },
-    ghost entries: { (i k : ℕ) → i < count → k < 8 → slice_index (slice_index_or rows i blank).actions k < 32 },
+    rows: Bounded<Bounded<u8, 8>, 16>,
+    ghost keeps: { Keeps (map list_of (list_of rows)) },
 }

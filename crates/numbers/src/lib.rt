@@ -12,10 +12,8 @@ ghost use Rattle.refusals.specs.Outcomes.{Gives};
 use refusals::{Fault, Reader, Refusal};
 
 mod fields;
-mod parts;
 
 pub use fields::Fields;
-pub use parts::{below, cut_short, fault_at, limited};
 
 // A number, and the bytes after it.
 #[derive(Clone, Copy)]
@@ -157,9 +155,9 @@ mod tests {
         refuses(&rt, &[1, 7, 0x80], &[0x80], Refusal::EndsEarly, 3);
     }
 
-    fn refuses_field(
+    fn refuses_field<T: Drop>(
         rt: &impl Abort,
-        field: Result<Number, Fault>,
+        field: Result<T, Fault>,
         refusal: Refusal,
         place: usize,
         reader: Reader,
@@ -174,25 +172,25 @@ mod tests {
 
     #[test]
     fn limits_at_both_ends(rt: HostRuntime) -> Result<(), Fail> {
-        assert_eq!(rt; limited(&[9, 2], &[2], 2, 4)?.value, 2);
-        assert_eq!(rt; limited(&[9, 4], &[4], 2, 4)?.value, 4);
+        assert_eq!(rt; Fields::new(&[9, 2], &[2]).limited(2, 4)?, 2);
+        assert_eq!(rt; Fields::new(&[9, 4], &[4]).limited(2, 4)?, 4);
         refuses_field(
             &rt,
-            limited(&[9, 1], &[1], 2, 4),
+            Fields::new(&[9, 1], &[1]).limited(2, 4),
             Refusal::OutsideLimit,
             1,
             Reader::Sheet,
         );
         refuses_field(
             &rt,
-            limited(&[9, 5], &[5], 2, 4),
+            Fields::new(&[9, 5], &[5]).limited(2, 4),
             Refusal::OutsideLimit,
             1,
             Reader::Sheet,
         );
         refuses_field(
             &rt,
-            limited(&[9], &[], 2, 4),
+            Fields::new(&[9], &[]).limited(2, 4),
             Refusal::EndsEarly,
             1,
             Reader::Number,
@@ -203,11 +201,11 @@ mod tests {
     #[test]
     fn below_an_end(rt: HostRuntime) -> Result<(), Fail> {
         let most = [0xFF, 0xFF, 0xFF, 0xFF, 0x0F];
-        assert_eq!(rt; below(&most, &most, 1 << 32)?.value, 4_294_967_295);
-        assert_eq!(rt; below(&[3], &[3], 4)?.value, 3);
+        assert_eq!(rt; Fields::new(&most, &most).below(1 << 32)?, 4_294_967_295);
+        assert_eq!(rt; Fields::new(&[3], &[3]).below(4)?, 3);
         refuses_field(
             &rt,
-            below(&[9, 4], &[4], 4),
+            Fields::new(&[9, 4], &[4]).below(4),
             Refusal::OutsideLimit,
             1,
             Reader::Sheet,
@@ -219,26 +217,24 @@ mod tests {
     fn fields_of_a_kind(rt: HostRuntime) -> Result<(), Fail> {
         let mut fields = Fields::of_kind(&[3, 0xAC, 0x02, 7], 3)?;
         assert_eq!(rt; fields.number()?, 300);
-        refuses_sheet(&rt, fields.ended(), Refusal::LeftOver, 3);
+        refuses_field(&rt, fields.ended(), Refusal::LeftOver, 3, Reader::Sheet);
         assert_eq!(rt; fields.byte()?, 7);
         fields.ended()?;
-        refuses_sheet(&rt, fields.byte(), Refusal::EndsEarly, 4);
-        refuses_sheet(&rt, Fields::of_kind(&[3], 2), Refusal::WrongKind, 0);
-        refuses_sheet(&rt, Fields::of_kind(&[], 2), Refusal::EndsEarly, 0);
+        refuses_field(&rt, fields.byte(), Refusal::EndsEarly, 4, Reader::Sheet);
+        refuses_field(
+            &rt,
+            Fields::of_kind(&[3], 2),
+            Refusal::WrongKind,
+            0,
+            Reader::Sheet,
+        );
+        refuses_field(
+            &rt,
+            Fields::of_kind(&[], 2),
+            Refusal::EndsEarly,
+            0,
+            Reader::Sheet,
+        );
         Ok(())
-    }
-
-    fn refuses_sheet<T: Drop>(
-        rt: &impl Abort,
-        outcome: Result<T, Fault>,
-        refusal: Refusal,
-        place: usize,
-    ) {
-        let fault = Fault {
-            refusal,
-            place,
-            reader: Reader::Sheet,
-        };
-        assert_eq!(rt; outcome.err(), Some(fault));
     }
 }

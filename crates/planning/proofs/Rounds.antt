@@ -1,6 +1,9 @@
 -- The rounds of the planner: how they start, go on and end, and why the plan has room for them.
-use Rattle.std.proofs.Common.{◌≡◌, ℕ, zero, suc, ◌+◌, ◌*◌, ◌^◌, ◌<◌, ◌≤◌, true, false, T, List, [], ◌++◌, length, sym, refl, ◌∙◌, subst, inl, inr, append_assoc, append-nil, mul-le-mul_right, suc-mul, arith, length-append}
-use Rattle.std.proofs.lemmas.Bool.{cases_Bool, cond-true, cond-false}
+use Rattle.std.proofs.Common.{◌≡◌, ℕ, zero, suc, ◌+◌, ◌*◌, ◌/◌, ◌%◌, ◌^◌, ◌<◌, ◌≤◌, count_ones, true, false, T, List, [], ◌++◌, length, sym, refl, ap, ◌∙◌, subst, inl, inr, append_assoc, append-nil, mul-le-mul_right, suc-mul, mod-lt, lit<, lt_of_lt_of_le, pow_mono, arith, length-append}
+use Rattle.std.proofs.lemmas.Bool.{cases_Bool, cond-true, cond-false, eqb-true, eqb-false}
+use Rattle.std.proofs.lemmas.Nat.{mod-pow-add, pow_pos}
+use Rattle.std.proofs.Math.Nat.{mod-one, mod-eq_of_lt}
+use lib.Count.{ones_cat, ones-ones}
 use Rattle.feeders.specs.Motion.{Motion, Valid}
 use Rattle.feeders.specs.Sets.{has, all_below}
 use Rattle.feeders.specs.Image.{image}
@@ -17,6 +20,7 @@ use Rattle.graphs.proofs.Numbering.{pair_inside, pair_sound, start_few}
 use Rattle.graphs.proofs.Meeting.{leads_meets}
 use Rattle.graphs.proofs.Sizes.{members_some, image_shrinks, image_some, size_two, usable_below}
 use Rattle.planning.specs.Round.{size, Round}
+use Rattle.planning.specs.Walk.{Fits}
 
 -- ---- the number of poses
 
@@ -24,20 +28,38 @@ pub size_is : (s : ℕ) → size s ≡ size_of s
 unfolding size
 size_is s = refl
 
--- one number more, as a loop counts
-pub members-has : (n s : ℕ) → has s n ≡ true → members (suc n) s ≡ members n s + 1
+members-has : (n s : ℕ) → has s n ≡ true → members (suc n) s ≡ members n s + 1
 members-has n s e = cond-true (has s n) (suc (members n s)) (members n s) e ∙ omega arith
 
-pub members_lacks : (n s : ℕ) → has s n ≡ false → members (suc n) s ≡ members n s
+members_lacks : (n s : ℕ) → has s n ≡ false → members (suc n) s ≡ members n s
 members_lacks n s e = cond-false (has s n) (suc (members n s)) (members n s) e
 
-pub members_few : (n s : ℕ) → members n s ≤ n
+members_few : (n s : ℕ) → members n s ≤ n
 members_few zero s = omega arith
 members_few (suc n) s =
     elim (cases_Bool (has s n)) [
       | inl e ↦ omega (arith, members_few n s, members-has n s e)
       | inr e ↦ omega (arith, members_few n s, members_lacks n s e)
     ]
+
+-- the members below n are the digits of what is left at 2 ^ n
+members_ones : (n s : ℕ) → members n s ≡ count_ones (s % 2 ^ n)
+members_ones zero s = sym (ap count_ones (mod-one s) ∙ ones-ones 0)
+members_ones (suc n) s =
+    let bit = s / 2 ^ n % 2 in
+    let rest = s % 2 ^ n in
+    let more : 1 + n ≡ suc n = omega arith in
+    let cut : s % 2 ^ suc n ≡ bit * 2 ^ n + rest = subst (λ (k : ℕ). s % 2 ^ k ≡ bit * 2 ^ n + rest) more (mod-pow-add s 1 n) in
+    let sum : count_ones (s % 2 ^ suc n) ≡ count_ones bit + count_ones rest = ap count_ones cut ∙ ones_cat n bit rest (mod-lt s {m = 2 ^ n} (pow_pos n)) in
+    elim (cases_Bool (has s n)) [
+      | inl e ↦ omega (arith, sum, members-has n s e, members_ones n s, ap count_ones (eqb-true bit 1 e), ones-ones 1)
+      | inr e ↦
+          let none : bit ≡ 0 = omega (arith, eqb-false bit 1 e, mod-lt (s / 2 ^ n) {m = 2} (lit< tt)) in
+          omega (arith, sum, members_lacks n s e, members_ones n s, ap count_ones none, ones-ones 0)
+    ]
+
+size_ones : (s : ℕ) → s < 2 ^ 32 → count_ones s ≡ size s
+size_ones s small = sym (size_is s ∙ members_ones 32 s ∙ ap count_ones (mod-eq_of_lt small))
 
 size_few : (s : ℕ) → size s ≤ 32
 size_few s = subst (λ (k : ℕ). k ≤ 32) (sym (size_is s)) (members_few 32 s)
@@ -87,7 +109,7 @@ module _ (m : Motion) (perm s here : ℕ) (made : List ℕ) (ok : Valid m) (roun
     greater_below : q < m.poses
     greater_below = has-below m.poses here q round.inside x.greater
 
-    pub node_below : pair_node p q < start m.poses + 1
+    node_below : pair_node p q < start m.poses + 1
     node_below = let h = pair_inside p q m.poses x.ordered greater_below in omega (arith, h)
 
     away_few : d < start m.poses + 1
@@ -97,8 +119,16 @@ module _ (m : Motion) (perm s here : ℕ) (made : List ℕ) (ok : Valid m) (roun
     two_here = subst (λ (k : ℕ). 2 ≤ k) (sym (size_is here)) (size_two here p q x.ordered (below_all q m.poses greater_below ok.few_poses) x.lesser x.greater)
 
     -- the way of the nearest pair fits into the plan
-    pub round_room : length made + d ≤ 16384
-    round_room = room (length made) (size here) (size s) d (start m.poses) round.short two_here (size_few s) away_few (start_few m.poses ok.few_poses)
+    pub round_fits : Fits (pair_graph m) perm (pair_node p q) made
+    round_fits = record {
+      inside = node_below;
+      left = d;
+      away = x.away;
+      room = room (length made) (size here) (size s) d (start m.poses) round.short two_here (size_few s) away_few (start_few m.poses ok.few_poses);
+    }
+
+    pub pair_below : (p < q) × (q < m.poses)
+    pair_below = (x.ordered, greater_below)
 
     module _ (w : List ℕ) (y : Way (pair_graph m) perm (pair_node p q) w) where
       pub way_below : T (all_below m.actions w)
@@ -129,6 +159,10 @@ module _ (m : Motion) (perm s here : ℕ) (made : List ℕ) (ok : Valid m) (roun
             subst (λ (k : ℕ). k + size (image m here w) * start m.poses ≤ size s * start m.poses) (sym (length-append made w))
             (pays (length made) (length w) (size here) (size (image m here w)) (size s) (start m.poses) round.short way_few round_falls);
       }
+
+  -- the count that the code takes
+  pub round_ones : count_ones here ≡ size here
+  round_ones = size_ones here (lt_of_lt_of_le round.inside (pow_mono ok.few_poses))
 
   pub round_met : size here < 2 → PairRule m perm s made
   round_met l =

@@ -1,5 +1,5 @@
 pub mod Planned
 pub mod Round
-pub mod Scan
+pub mod Nearest
 pub mod Walk
 pub mod Aimed

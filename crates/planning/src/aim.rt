@@ -4,7 +4,7 @@ ghost use Rattle.planning.specs.Aimed.{Aimed};
 
 use crate::way::append_way;
 use feeders::Feeder;
-use grounds::{PoseGround, measure};
+use grounds::{Distances, PoseGround};
 use plans::Plan;
 use refusals::Refusal;
 
@@ -24,13 +24,13 @@ pub fn append_way_to<F: Feeder>(
     ensures laws { PoseLaws (F.Feeder.motion feeder.now) permitted }
 {
     let ground = PoseGround::new(feeder, goal)?;
-    let distances = measure(&ground, permitted);
-    let Some(away) = distances.distance(from)? else {
-        return Err(Refusal::CannotEndThere);
-    };
+    let distances = Distances::measure(&ground, permitted);
+    let away = distances
+        .distance(from)?
+        .ok_or(Refusal::CannotEndThere)?;
     if plan.len() + away as usize > ROOM {
         return Err(Refusal::PlanTooLong);
     }
-    append_way(&ground, permitted, &distances, from, plan);
+    append_way(&distances, from, plan);
     Ok(())
 }

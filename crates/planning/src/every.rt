@@ -1,21 +1,13 @@
 // A plan from all poses of a feeder.
-ghost use Rattle.std.specs.Prelude.{◌≡◌, ℕ, ◌-◌, ◌^◌, ◌≤◌, ◌↔◌, List, Err};
+ghost use Rattle.std.specs.Prelude.{◌≡◌, ℕ, ◌↔◌, List, Err};
 ghost use Rattle.graphs.specs.PairRule.{Orients, every as every_pose};
 ghost use Rattle.planning.specs.Planned.{Planned};
 ghost use Rattle.refusals.specs.declared.Refusal.TheVariants.{CannotOrient};
 
 use crate::rule::plan_pairs;
-use feeders::Feeder;
+use feeders::{Feeder, every};
 use plans::Plan;
 use refusals::Refusal;
-
-// All poses of a feeder that has so many.
-fn all_poses(poses: u32) -> u32
-    requires { poses ≤ 32 }
-    ensures { result ≡ 2 ^ poses - 1 }
-{
-    ((1u64 << poses) - 1) as u32
-}
 
 // The plan becomes the one that the pair rule gives from all poses with the permitted actions.
 // "Cannot be oriented" is answered exactly when no list of permitted actions, of any length, brings all poses to one.
@@ -23,6 +15,5 @@ pub fn plan_every<F: Feeder>(feeder: &F, permitted: u32, plan: &mut Plan) -> Res
     ensures planned { Planned (F.Feeder.motion feeder.now) permitted (every_pose (F.Feeder.motion feeder.now)) plan.old plan.new result }
     ensures exact { (result ≡ Err CannotOrient) ↔ ((w : List ℕ) → Orients (F.Feeder.motion feeder.now) permitted (every_pose (F.Feeder.motion feeder.now)) w → ⊥) }
 {
-    let every = all_poses(feeder.poses());
-    plan_pairs(feeder, permitted, every, plan)
+    plan_pairs(feeder, permitted, every(feeder.poses()), plan)
 }

@@ -5,7 +5,6 @@ mod aim;
 mod every;
 mod nearest;
 mod rule;
-mod sets;
 mod way;
 
 pub use aim::append_way_to;

@@ -1,3 +1,3 @@
-mod Hex
+mod Rows
 mod Steps
 pub mod Outcomes

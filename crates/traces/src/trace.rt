@@ -20,9 +20,7 @@ pub fn write_trace<F: Feeder>(
     ensures written { Leaves (λ bytes. bytes) (traced (F.Feeder.motion feeder.now) set list.now buffer.old) buffer.old buffer.new result }
     ensures laws { TraceLaws (F.Feeder.motion feeder.now) set list.now }
 {
-    if let Err(refusal) = image(feeder, set, list) {
-        return Err(refusal);
-    }
+    image(feeder, set, list)?;
     // Divided, since twelve times a length could overflow.
     if buffer.len() / 12 <= list.len() {
         return Err(Refusal::BufferTooShort);
@@ -53,8 +51,5 @@ fn stepped<F: Feeder>(feeder: &F, set: u32, action: u8) -> u32
     requires action_bound { action < (F.Feeder.motion feeder.now).actions }
     ensures { result ≡ image_of (F.Feeder.motion feeder.now) set (action ∷ []) }
 {
-    match image(feeder, set, &[action]) {
-        Ok(reached) => reached,
-        Err(_) => unreachable(),
-    }
+    image(feeder, set, &[action]).unwrap()
 }

@@ -10,6 +10,7 @@ use crate::checks::end_of;
 use crate::job::Job;
 use feeders::Feeder;
 use plans::Plan;
+use records::Record;
 use refusals::Refusal;
 use traces::write_trace;
 

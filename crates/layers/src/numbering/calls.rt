@@ -6,7 +6,7 @@ ghost use Rattle.layers.specs.Once.{Fills};
 ghost use Rattle.layers.specs.Renumbering.{above as above_of, below as below_of};
 
 use crate::numbering::RenumberTable;
-use crate::numbering::lists::{numbers_of, once_each, own_numbers, places_of};
+use crate::numbering::filling::{numbers_of, once_each, own_numbers, places_of};
 use refusals::Refusal;
 
 // The places of a table: as many as a feeder may have poses.

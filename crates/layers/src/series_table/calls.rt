@@ -4,15 +4,15 @@ ghost use Rattle.refusals.specs.Outcomes.{Leaves};
 ghost use Rattle.refusals.specs.declared.Refusal.TheVariants.{OutsideLimit};
 ghost use Rattle.layers.specs.Held.{series_of, resized, lengthened};
 
-use crate::row::Row;
 use crate::series_table::SeriesTable;
+use lists::Bounded;
 use refusals::Refusal;
 
 // The most series of a table.
 const MOST_SERIES: u32 = 16;
 
 // The most entries of one series.
-const MOST_ENTRIES: u32 = 8;
+const MOST_ENTRIES: usize = 8;
 
 // The most actions of a feeder: no entry can name another.
 const MOST_ACTIONS: u32 = 32;
@@ -30,27 +30,30 @@ impl SeriesTable {
         requires { (1 ≤ count) × (count ≤ 16) }
         ensures { series_of result ≡ replicate count [] }
     {
-        SeriesTable {
-            rows: [Row::empty(); 16],
-            count,
+        let mut rows = Bounded::new(Bounded::new(0));
+        for _ in 0..count {
+            rows.push(Bounded::new(0)).unwrap();
         }
+        SeriesTable { rows }
     }
 
     // How many series the table holds.
     pub fn count(&self) -> u32
         ensures { result ≡ length (series_of self.now) }
     {
-        self.count
+        self.rows.len() as u32
     }
 
     // The actions of one series, in order.
     pub fn series(&self, series: u32) -> Result<&[u8], Refusal>
         ensures { MatchResult result (λ w. (series < length (series_of self.now)) × (w.now ≡ slice_index_or (series_of self.now) series [])) (λ e. (length (series_of self.now) ≤ series) × (e ≡ OutsideLimit)) }
     {
-        if series >= self.count {
-            return Err(Refusal::OutsideLimit);
-        }
-        Ok(self.rows[series as usize].series())
+        let row = self
+            .rows
+            .as_slice()
+            .get(series as usize)
+            .ok_or(Refusal::OutsideLimit)?;
+        Ok(row.as_slice())
     }
 
     // Makes it `count` series without actions, whatever it held.
@@ -68,14 +71,11 @@ impl SeriesTable {
     pub fn lengthen(&mut self, series: u32, action: u32) -> Result<(), Refusal>
         ensures { Leaves series_of (lengthened (series_of self.old) series action) self.old self.new result }
     {
-        if series >= self.count || action >= MOST_ACTIONS {
+        if action >= MOST_ACTIONS || self.series(series)?.len() >= MOST_ENTRIES {
             return Err(Refusal::OutsideLimit);
         }
-        if self.rows[series as usize].length >= MOST_ENTRIES {
-            return Err(Refusal::OutsideLimit);
-        }
-        let row = &mut self.rows[series as usize];
-        row.push(action as u8);
+        let row = self.rows.get_mut(series as usize).unwrap();
+        row.push(action as u8).unwrap();
         Ok(())
     }
 }

@@ -1,38 +1,17 @@
--- The four answers, each in the words of distances.
-use Rattle.std.proofs.Common.{◌≡◌, suc, ◌<◌, sym, refl, ◌∙◌, subst, arith}
-use Rattle.feeders.proofs.Sets.{T_of_true, not-T_of_false}
-use Rattle.graphs.specs.Distance.{Distance}
-use Rattle.graphs.proofs.Certificates.{told-Distance}
-use Rattle.grounds.proofs.Searches.{distance_laws, no_step_none}
+-- A node that is reached and no goal has a first label.
+use Rattle.std.proofs.Common.{◌≡◌, ◌<◌, false, Ok, ap, ◌∙◌, subst}
+use Rattle.feeders.proofs.Sets.{not-T_of_false}
+use Rattle.grounds.specs.Reach.{Away}
+use Rattle.grounds.proofs.Searches.{goal_is, step_there}
 use Rattle.grounds.proofs.reach.search.Goals as goal
 
-pub returns-then-node-nodes : goal.returns-then-node-nodes
-returns-then-node-nodes g c = record { answer = (omega (arith, c.nodes.ensures), refl); laws = distance_laws }
-
-pub returns-then-at_goal : goal.returns-then-at_goal
-returns-then-at_goal g c =
+pub unwrap-label-requires : goal.unwrap-label-requires
+unwrap-label-requires g c =
     let t = g.G.Ground.graph c.args.ground.now in
-    record { answer = (omega (arith, c.nodes.ensures), T_of_true (t.goal c.args.node) (sym c.if-at_goal.ensures)); laws = distance_laws }
-
-pub returns-in-Some : goal.returns-in-Some
-returns-in-Some g c =
-    let x = c.args.ground.now in
-    let t = g.G.Ground.graph x in
-    let s = c.args.permitted in
     let v = c.args.node in
-    let table = c.measure-distances.result.table in
-    let p = c.measure-distances.ensures.passes in
-    let r = c.in-Some.ensures p in
-    let e : c.from.result ≡ suc r.1.0 = c.from.ensures ∙ c.entry.ensures ∙ told-Distance t s table v (suc r.1.0) (g.G.Ground.sound x) p r.0 r.1.1 in
-    record { answer = (r.0, (r.1.0, e, subst (Distance t s v) (sym e) r.1.1, r.1.2)); laws = distance_laws }
-
-pub returns-in-None : goal.returns-in-None
-returns-in-None g c =
-    let x = c.args.ground.now in
-    let t = g.G.Ground.graph x in
-    let s = c.args.permitted in
-    let v = c.args.node in
-    let table = c.measure-distances.result.table in
-    let p = c.measure-distances.ensures.passes in
-    let l : v < t.nodes = omega (arith, c.nodes.ensures) in
-    record { answer = (l, no_step_none t s table v (g.G.Ground.sound x) p l (not-T_of_false (t.goal v) (sym c.if-at_goal.ensures)) (c.in-None.ensures p)); laws = distance_laws }
+    let d = c.measure-distances.result.levels in
+    let u = g.G.Ground.graph d.ground.now in
+    let away = subst (Away u d.permitted v) (ap Ok c.in-Some.is) c.in_ok-distance.ensures.away in
+    let inside : v < t.nodes = rw c.measure-distances.ensures.at at away.0 in
+    let not_goal : t.goal v ≡ false = goal_is t v c.in_ok-is_goal.field-0 inside c.in_ok-is_goal.ensures ∙ c.if-branch.false in
+    step_there u d.permitted v c.in-Some.distance c.first_label.result away.0 (rw c.measure-distances.ensures.at (not-T_of_false (t.goal v) not_goal)) away.1 c.first_label.ensures

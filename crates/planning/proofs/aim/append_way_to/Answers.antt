@@ -1,77 +1,72 @@
 -- The answers of the calls on the pose ground, each in the words of ways.
-use Rattle.std.proofs.Common.{ℕ, ◌+◌, ◌<◌, Ok, Err, sym, refl, ap, ◌∙◌, subst, inl}
+use Rattle.std.proofs.Common.{◌≡◌, ℕ, ◌+◌, ◌<◌, length, Some, None, Ok, refl, subst, inl, inr, arith}
 use Rattle.std.proofs.lemmas.Result.{err_from_is_err_and}
+use Rattle.refusals.specs.declared.Refusal.TheVariants.{CannotEndThere}
 use Rattle.plans.specs.Held.{list_of}
+use Rattle.graphs.specs.Poses.{pose_graph}
+use Rattle.graphs.specs.Distance.{Distance}
+use Rattle.graphs.specs.Certificate.{Passes}
+use Rattle.graphs.proofs.Numbering.{pose_sound}
 use Rattle.graphs.proofs.PoseRules.{pose_laws}
-use Rattle.planning.specs.Aimed.{AimRefused}
-use Rattle.planning.specs.Aimed.AimRefused.{no_pose}
-use Rattle.planning.proofs.Aims.{Aim, aim_refused, aim_absent, aim_never, aim_too_long, aim_taken}
-use Rattle.planning.proofs.aim.append_way_to.Given as given
+use Rattle.grounds.proofs.Searches.{passing}
+use Rattle.grounds.specs.Reach.{Away}
+use Rattle.planning.specs.Aimed.AimRefused.{no_pose, never, too_long}
+use Rattle.planning.proofs.Aims.{way_there}
 use Rattle.planning.proofs.aim.append_way_to.Goals as goal
-use Rattle.planning.proofs.aim.append_way_to.Goals.{After-distance}
 
 pub returns-in_err-ground : goal.returns-in_err-ground
 returns-in_err-ground g c =
     let f = c.args.feeder.now in
-    let m = g.F.Feeder.motion f in
     let refused = c.in_err-ground.ensures in
     let p = err_from_is_err_and c.from_residual.result c.from_residual.ensures.1 in
-    record {
-      aimed = aim_refused m c.args.permitted c.args.from c.args.goal c.args.plan.now c.from_residual.result p.0 p.1
-          (subst (AimRefused m c.args.permitted c.args.from c.args.goal (list_of c.args.plan.now)) (sym (p.2 ∙ refused.1)) (no_pose (inl refused.0)));
-      laws = pose_laws m c.args.permitted (g.F.Feeder.valid f);
-    }
+    rw (p.1, p.2, refused.1) (record {
+      aimed = (no_pose (inl refused.0), refl);
+      laws = pose_laws (g.F.Feeder.motion f) c.args.permitted (g.F.Feeder.valid f);
+    })
 
--- what is known of the ground and its table
-aim : (g : given.Over) (c : After-distance g) → Aim (g.F.Feeder.motion c.args.feeder.now) (g.F.Feeder.motion c.in_ok-ground.ground.feeder.now) c.args.permitted c.args.goal c.in_ok-ground.ground.goal c.measure-distances.result.nodes c.measure-distances.result.table
-aim g c =
-    let made = c.in_ok-ground.ensures in
-    record {
-      same = ap g.F.Feeder.motion made.1;
-      at_goal = made.2;
-      ok = g.F.Feeder.valid c.args.feeder.now;
-      there = made.0;
-      passes = c.measure-distances.ensures.passes;
-      count = c.measure-distances.ensures.count;
-    }
+pub returns-in_err-distance : goal.returns-in_err-distance
+returns-in_err-distance g c =
+    let f = c.args.feeder.now in
+    let refused = rw (c.measure-distances.ensures.at, c.in_ok-ground.ensures.1) at c.in_err-distance.ensures.away in
+    let p = err_from_is_err_and c.from_residual-in_err-distance.result c.from_residual-in_err-distance.ensures.1 in
+    rw (p.1, p.2, refused.1) (record {
+      aimed = (no_pose (inr refused.0), refl);
+      laws = pose_laws (g.F.Feeder.motion f) c.args.permitted (g.F.Feeder.valid f);
+    })
 
 pub returns-in_err-away : goal.returns-in_err-away
 returns-in_err-away g c =
     let f = c.args.feeder.now in
     let m = g.F.Feeder.motion f in
+    let there = c.in_ok-ground.ensures in
+    let d = c.measure-distances.result.levels in
+    let none = c.in_err-away.ensures.ok_part in
+    let told = subst (λ o. Away (pose_graph (g.F.Feeder.motion d.ground.now.feeder.now) d.ground.now.goal) d.permitted c.args.from (Ok o)) none c.in_ok-distance.ensures.away in
+    let away : Away (pose_graph m c.args.goal) c.args.permitted c.args.from (Ok None) = rw (c.measure-distances.ensures.at, there.1, there.2, c.measure-distances.ensures.by) at told in
+    let why : c.in_err-away.field-0.0 ≡ CannotEndThere = let v = rw none at c.in_err-away.ensures.value in cc in
     let p = err_from_is_err_and c.from_residual-in_err-away.result c.from_residual-in_err-away.ensures.1 in
-    record {
-      aimed = aim_refused m c.args.permitted c.args.from c.args.goal c.args.plan.now c.from_residual-in_err-away.result p.0 p.1
-          (aim_absent (aim g (goal.at.returns-in_err-away g c).After-distance) c.args.from (list_of c.args.plan.now) p.0 (ap Err p.2 ∙ c.in_err-away.ensures));
+    rw (p.1, p.2, why) (record {
+      aimed = (never there.0 away.0 away.1, refl);
       laws = pose_laws m c.args.permitted (g.F.Feeder.valid f);
-    }
-
-pub returns-in_default : goal.returns-in_default
-returns-in_default g c =
-    let f = c.args.feeder.now in
-    record {
-      aimed = (aim_never (aim g (goal.at.returns-in_default g c).After-distance) c.args.from (list_of c.args.plan.now) (sym (ap Ok c.in_default.is) ∙ c.in_ok-away.ensures), refl);
-      laws = pose_laws (g.F.Feeder.motion f) c.args.permitted (g.F.Feeder.valid f);
-    }
+    })
 
 pub returns-then-len-away-gt-ROOM : goal.returns-then-len-away-gt-ROOM
 returns-then-len-away-gt-ROOM g c =
     let f = c.args.feeder.now in
-    let long = subst (λ (n : ℕ). 16384 < n + c.in-Some.away) c.len.ensures.counts c.if-len-away-gt-ROOM.true in
+    let m = g.F.Feeder.motion f in
+    let d = c.measure-distances.result in
+    let there = c.in_ok-ground.ensures in
+    let some = c.in_ok-away.ensures.ok_part in
+    let k = pose_graph m c.args.goal in
+    let told = subst (λ o. Away (pose_graph (g.F.Feeder.motion d.levels.ground.now.feeder.now) d.levels.ground.now.goal) d.levels.permitted c.args.from (Ok o)) some c.in_ok-distance.ensures.away in
+    let away : Away k c.args.permitted c.args.from (Ok (Some c.in_ok-away.away)) = rw (c.measure-distances.ensures.at, there.1, there.2, c.measure-distances.ensures.by) at told in
+    let passes : Passes k c.args.permitted d.levels.table = rw (c.measure-distances.ensures.at, there.1, there.2, c.measure-distances.ensures.by) at (passing (pose_graph (g.F.Feeder.motion d.levels.ground.now.feeder.now) d.levels.ground.now.goal) d.levels.permitted d.levels.table d.passes) in
+    let way = way_there k c.args.permitted d.levels.table c.args.from c.in_ok-away.away (pose_sound m c.args.goal (g.F.Feeder.valid f)) passes away.0 away.1 in
+    let long : 16384 < length (list_of c.args.plan.now) + length way.0 = omega (arith, way.2, c.len.ensures.counts) in
     record {
-      aimed = (
-        aim_too_long (aim g (goal.at.returns-then-len-away-gt-ROOM g c).After-distance) c.args.from (list_of c.args.plan.now) c.in-Some.away
-            (sym (ap Ok c.in-Some.is) ∙ c.in_ok-away.ensures) long,
-        refl,
-      );
-      laws = pose_laws (g.F.Feeder.motion f) c.args.permitted (g.F.Feeder.valid f);
+      aimed = (too_long {w = way.0} there.0 away.0 way.1 long, refl);
+      laws = pose_laws m c.args.permitted (g.F.Feeder.valid f);
     }
 
-pub returns : goal.returns
-returns g c =
-    let f = c.args.feeder.now in
-    record {
-      aimed = aim_taken (aim g (goal.at.returns g c).After-distance) c.args.from (list_of c.args.plan.now) c.in-Some.away
-          (sym (ap Ok c.in-Some.is) ∙ c.in_ok-away.ensures) (list_of c.append_way.new.plan) c.append_way.ensures;
-      laws = pose_laws (g.F.Feeder.motion f) c.args.permitted (g.F.Feeder.valid f);
-    }
+pub returns-clause-laws : goal.returns-clause-laws
+returns-clause-laws g c = pose_laws (g.F.Feeder.motion c.args.feeder.now) c.args.permitted (g.F.Feeder.valid c.args.feeder.now)

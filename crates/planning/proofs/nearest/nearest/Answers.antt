@@ -1,26 +1,11 @@
--- Each turn scans the pairs of one lesser pose more.
-use Rattle.std.proofs.Common.{◌≡◌, ℕ, ◌+◌, sym, subst, arith}
-use Rattle.planning.specs.Scan.{Scanned}
-use Rattle.planning.proofs.Scans.{bare_first, scan_moves, lacks_lesser}
+-- The first of the pairs that the chain gives.
+use Rattle.std.proofs.Common.{◌≡◌, refl, rules, tests}
+use Rattle.std.proofs.lemmas.Iterator.{YieldsList-from_range}
+use Rattle.std.proofs.lemmas.Iterator.Consumers.{YieldsList-from_filter_map, reduce_from_yields_List}
+use Rattle.planning.specs.Nearest.{row_of, first_of}
 use Rattle.planning.proofs.nearest.nearest.Goals as goal
-use Rattle.planning.proofs.nearest.nearest.Goals.{then-has_pose, else-has_pose}
-
-pub loop-p-init : goal.loop-p-init
-loop-p-init g c = bare_first c.args.distances.now.table c.args.set
-
-pub loop-p-preserved : goal.loop-p-preserved
-loop-p-preserved g c =
-    let table = c.args.distances.now.table in
-    let s = c.args.set in
-    let p = c.loop-p.p in
-    elim c.if-has_pose.branch [
-      | then-has_pose w ↦ subst (Scanned table s (p + 1) 0) (sym w.best-is) w.nearest_with-best.ensures
-      | else-has_pose w ↦
-          subst (Scanned table s (p + 1) 0) (sym w.best-is)
-          (scan_moves table s p 0 (p + 1) 0 c.loop-p.best (lacks_lesser s p (sym w.if-has_pose.ensures)) c.loop-p.invariant)
-    ]
 
 pub returns : goal.returns
 returns g c =
-    let all : c.loop-p.p ≡ c.args.n = omega arith in
-    subst (λ (k : ℕ). Scanned c.args.distances.now.table c.args.set k 0 c.loop-p.best) all c.loop-p.invariant
+    reduce_from_yields_List first_of c.filter_map.result c.min.result c.min.ensures.ran
+    (YieldsList-from_filter_map _ (row_of c.args.distances.now.levels.table c.args.set) (YieldsList-from_range 0 32 32 c.filter_map.ensures.source refl) c.filter_map.ensures.closure (λ x r q k. search (rules, tests)))

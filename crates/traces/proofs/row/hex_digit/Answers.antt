@@ -1,9 +1,9 @@
--- A digit is a figure or a letter.
-use Rattle.traces.proofs.Hex.{hex_at_low, hex_at_high}
+-- The shift divides by a power of 16.
+use Rattle.std.proofs.Common.{◌≡◌, ℕ, ◌^◌, ◌*◌, rules, arith}
+use Rattle.traces.proofs.Rows.{bits_digits}
+use Rattle.traces.specs.Rows.{hex_at}
 use Rattle.traces.proofs.row.hex_digit.Goals as goal
 
-pub returns-then-digit-lt10 : goal.returns-then-digit-lt10
-returns-then-digit-lt10 c = hex_at_low c.args.set c.args.place c.if-digit-lt10.true
-
-pub returns-else-digit-lt10 : goal.returns-else-digit-lt10
-returns-else-digit-lt10 c = hex_at_high c.args.set c.args.place c.if-digit-lt10.false
+pub returns : goal.returns
+unfolding hex_at
+returns c = rw (← bits_digits c.args.place) (search rules)

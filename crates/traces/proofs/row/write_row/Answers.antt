@@ -1,19 +1,8 @@
--- The mark is the one of the action that is there, or of none.
-use Rattle.std.proofs.Common.{◌≡◌, ℕ, ◌+◌, ◌/◌, ◌%◌, Option, sym, ap, subst}
-use Rattle.traces.specs.Rows.{row_of}
+-- The row, part by part.
+use Rattle.traces.proofs.Rows.{row_written}
 use Rattle.traces.proofs.row.write_row.Goals as goal
-use Rattle.traces.proofs.row.write_row.Goals.{in-Some, in-None}
 
 pub returns : goal.returns
 returns c =
-    let Row : Option ℕ → Type 0 = λ a. c.copy_from_slice.new.self ≡ row_of a c.args.set in
-    elim c.match-action.branch [
-      | in-Some w ↦
-          let tens : c.match-action.tens.0 ≡ 48 + w.in-Some.number / 10 = ap (λ p. p.0) w.tens-is in
-          let units : c.match-action.tens.1 ≡ 48 + w.in-Some.number % 10 = ap (λ p. p.1) w.tens-is in
-          subst Row (sym w.in-Some.is) (cc)
-      | in-None w ↦
-          let tens : c.match-action.tens.0 ≡ 45 = ap (λ p. p.0) w.tens-is in
-          let units : c.match-action.tens.1 ≡ 45 = ap (λ p. p.1) w.tens-is in
-          subst Row (sym w.in-None.is) (cc)
-    ]
+    rw (c.copy_from_slice.ensures.after, c.copy_from_slice-2.ensures.after, c.mark.ensures, c.hex_digits.ensures)
+    (row_written c.args.set c.args.row.now c.requires c.args.action)

@@ -1,7 +1,0 @@
--- The mask 1 keeps the last digit.
-use Rattle.std.proofs.Common.{ℕ, ◌/◌, ◌^◌, eqb, ap}
-use Rattle.std.proofs.lemmas.Nat.{and_mask}
-use Rattle.planning.proofs.sets.has_pose.Goals as goal
-
-pub returns : goal.returns
-returns c = ap (λ (x : ℕ). eqb x 1) (and_mask (c.args.set / 2 ^ c.args.pose) 1)
