@@ -1,5 +1,5 @@
 -- A number field of a sheet: what follows it, or its fault.
-use Rattle.std.proofs.Common.{◌≡◌, ℕ, ◌^◌, ◌<◌, Bool, true, ltb, List, [], ◌∷◌, ◌++◌, Ok, Err, Result, refl, ◌∙◌, subst, arith}
+use Rattle.std.proofs.Common.{◌≡◌, ℕ, ◌^◌, ◌<◌, Bool, true, ltb, List, [], ◌∷◌, ◌++◌, Ok, Err, Result, refl, ◌∙◌, arith}
 use Rattle.refusals.specs.declared.Refusal.{Refusal}
 use Rattle.refusals.specs.declared.Refusal.TheVariants.{OutsideLimit}
 use Rattle.refusals.specs.declared.Fault.{Fault}
@@ -13,9 +13,6 @@ use Rattle.numbers.proofs.Spelling.{number_at-spell, number_at_only}
 -- the field, from what was read
 abbrev field : {X : Type 0} → List ℕ → List ℕ → (ℕ → List ℕ → Result X Fault) → Result Read Refusal → Result X Fault
 field whole rest go r = elim r [ Ok n ↦ go n.value n.rest | Err e ↦ Err (number_fault whole rest e) ]
-
-pub number_ok : {X : Type 0} (whole rest : List ℕ) (go : ℕ → List ℕ → Result X Fault) (v : ℕ) (after : List ℕ) → number_at rest ≡ Ok (record { value = v; rest = after }) → number whole rest go ≡ go v after
-number_ok whole rest go v after h = grind arith
 
 pub number-spell : {X : Type 0} (whole : List ℕ) (v : ℕ) (after : List ℕ) (go : ℕ → List ℕ → Result X Fault) → v < 2 ^ 32 → number whole (spell v ++ after) go ≡ go v after
 number-spell whole v after go h = grind (arith, number_at-spell v after h)
@@ -39,23 +36,12 @@ field_then {X} test e whole rest go = by (number_at rest)
     by (Ok n) = test_then (test n.value) e whole rest n go
     by (Err f) = refl
 
--- so it goes on where the field is accepted, and has the field's fault where it is refused
-pub field_ok : {X : Type 0} (test : ℕ → Bool) (e : Refusal) (whole rest : List ℕ) (go : ℕ → List ℕ → Result X Fault) (n : Read) → field_at test e whole rest ≡ Ok n → number whole rest (λ v after. tested (test v) e whole rest (go v after)) ≡ go n.value n.rest
-field_ok test e whole rest go n h = grind (arith, nat_tests)
-
-pub field_err : {X : Type 0} (test : ℕ → Bool) (e : Refusal) (whole rest : List ℕ) (go : ℕ → List ℕ → Result X Fault) (f : Fault) → field_at test e whole rest ≡ Err f → number whole rest (λ v after. tested (test v) e whole rest (go v after)) ≡ Err f
-field_err test e whole rest go f h = grind (arith, nat_tests)
-
 -- the two tests that sheets have most: from low to high, and below an end
 abbrev pub limited_at : ℕ → ℕ → List ℕ → List ℕ → Result Read Fault
 limited_at low high whole rest = field_at (within low high) OutsideLimit whole rest
 
 abbrev pub below_at : ℕ → List ℕ → List ℕ → Result Read Fault
 below_at end whole rest = field_at (λ v. ltb v end) OutsideLimit whole rest
-
--- the end that code has, in a wider type, is that of the format
-pub below_is : (end n : ℕ) (whole rest : List ℕ) (r : Result Read Fault) → end ≡ n → below_at end whole rest ≡ r → below_at n whole rest ≡ r
-below_is end n whole rest r is h = subst (λ (m : ℕ). below_at m whole rest ≡ r) is h
 
 -- the fault has the refusal that it was made for
 pub number_fault_refusal : (whole rest : List ℕ) (e : Refusal) → (number_fault whole rest e).refusal ≡ e

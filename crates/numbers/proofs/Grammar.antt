@@ -1,6 +1,5 @@
 -- What the words of the formats accept: a test, the end, the kind byte, and a number within limits.
-use Rattle.std.proofs.Common.{◌≡◌, ℕ, ◌-◌, ◌<◌, ◌≤◌, Bool, true, List, [], ◌∷◌, length, get_or, take, drop, Ok, Err, Result, refl, arith}
-use Rattle.std.proofs.lemmas.Grind.{common_steps}
+use Rattle.std.proofs.Common.{◌≡◌, ℕ, ◌≤◌, Bool, true, List, [], ◌∷◌, Ok, Err, Result, refl, arith}
 use Rattle.std.proofs.lemmas.Bool.Decides.{nat_tests}
 use Rattle.std.proofs.lemmas.Bool.{cond-true}
 use Rattle.refusals.specs.declared.Fault.{Fault}
@@ -23,11 +22,6 @@ tested_only ok e whole rest go x h = grind (arith, nat_tests)
 pub ended_only : {X : Type 0} (whole rest : List ℕ) (x y : X) → ended whole rest x ≡ Ok y → (rest ≡ []) × (x ≡ y)
 ended_only whole [] x y h = (refl, cc)
 ended_only whole (b ∷ rest) x y h = cc
-
--- with the right kind in front, a sheet is what its fields are: code reads them as that take
-pub kinded_fields : {X : Type 0} (k : ℕ) (whole : List ℕ) (go : List ℕ → Result X Fault) → 0 < length whole → get_or whole 0 0 ≡ k → kinded k whole go ≡ go (take (length whole - 1) (drop 1 whole))
-kinded_fields k [] go h e = absurd (omega arith)
-kinded_fields k (b ∷ rest) go h e = grind (arith, common_steps, nat_tests)
 
 -- what is accepted is of that kind
 pub kinded_only : {X : Type 0} (k : ℕ) (whole : List ℕ) (go : List ℕ → Result X Fault) (x : X) → kinded k whole go ≡ Ok x → (rest : List ℕ) × (whole ≡ k ∷ rest) × (go rest ≡ Ok x)

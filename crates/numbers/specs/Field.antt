@@ -1,4 +1,4 @@
--- A number field with a test, read by itself: what follows it comes later (proofs/Field.antt).
+-- The fields of a sheet, each read by itself: what follows it comes later (proofs/Field.antt).
 use Rattle.std.specs.Prelude.{◌≡◌, ℕ, Bool, List, Ok, Err, Result}
 use Rattle.refusals.specs.declared.Fault.{Fault}
 use Rattle.refusals.specs.declared.Refusal.{Refusal}

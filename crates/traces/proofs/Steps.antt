@@ -1,16 +1,15 @@
 -- How a trace grows: one action and one row more.
-use Rattle.std.proofs.Common.{◌≡◌, ℕ, zero, suc, ◌+◌, ◌-◌, ◌*◌, ◌^◌, ◌<◌, ◌≤◌, T, List, [], ◌∷◌, ◌++◌, length, get_or, take, drop, Some, None, Option, sym, refl, ap, ◌∙◌, subst, ap₂, inl, inr, append_assoc, add-one, arith, length-append, length-drop}
+use Rattle.std.proofs.Common.{◌≡◌, ℕ, zero, suc, ◌+◌, ◌-◌, ◌*◌, ◌^◌, ◌<◌, ◌≤◌, T, List, [], ◌∷◌, ◌++◌, length, get_or, take, drop, Some, None, Option, sym, refl, ap, ◌∙◌, subst, inl, inr, append_assoc, add-one, arith, length-append, length-drop}
 use borrow.Rule.Slice.PartMut.{put_mid}
 use Rattle.std.proofs.lemmas.List.{take_more, take_all, take_at, drop_at, drop-drop, take-append-drop, drop-append-le, take-append-le}
 use Rattle.std.proofs.lemmas.Bool.{cases_lt}
-use Rattle.std.proofs.lemmas.Slice.{drop-append-drop}
 use Rattle.feeders.specs.Motion.{Motion, Valid}
 use Rattle.feeders.specs.Sets.{all_below}
 use Rattle.feeders.specs.Image.{image}
-use Rattle.feeders.proofs.Images.{image-append, image-below, image-empty}
+use Rattle.feeders.proofs.Images.{image-append, image-below}
 use Rattle.feeders.proofs.Sets.{all_below-append}
 use Rattle.traces.specs.Rows.{row_of}
-use Rattle.traces.specs.Trace.{performed, row_at, rows_to, trace_of, TraceLaws}
+use Rattle.traces.specs.Trace.{performed, row_at, rows_to, TraceLaws}
 
 row_length : (a : Option ℕ) (s : ℕ) → length (row_of a s) ≡ 12
 row_length None s = refl
@@ -50,14 +49,14 @@ module _ (m : Motion) (s : ℕ) (w : List ℕ) where
   pub rows_more : (out old last : List ℕ) (i : ℕ) → out ≡ rows_to m s w i ++ drop (12 * i) old → last ≡ row_at m s w i → put_mid (12 * i) (12 * i + 12 - 12 * i) out last ≡ rows_to m s w (i + 1) ++ drop (12 * (i + 1)) old
   rows_more out old last i is wrote =
       let front : length (rows_to m s w i) ≡ 12 * i = rows_length i in
-      let before : take (12 * i) out ≡ rows_to m s w i = ap (take (12 * i)) is ∙ take_at (rows_to m s w i) (drop (12 * i) old) (12 * i) front in
-      let after : drop (12 * i) out ≡ drop (12 * i) old = ap (drop (12 * i)) is ∙ drop_at (rows_to m s w i) (drop (12 * i) old) (12 * i) front in
       let k : 12 * i + 12 - 12 * i ≡ 12 = omega arith in
       let n : 12 * i + 12 ≡ 12 * (i + 1) = omega arith in
-      let rest : drop (12 * i + 12 - 12 * i) (drop (12 * i) out) ≡ drop (12 * (i + 1)) old = ap (λ (k : ℕ). drop k (drop (12 * i) out)) k ∙ ap (drop 12) after ∙ drop-drop 12 (12 * i) old ∙ ap (λ (n : ℕ). drop n old) n in
-      let grown : rows_to m s w (i + 1) ≡ rows_to m s w i ++ row_at m s w i = ap (rows_to m s w) (add-one i) in
-      ap₂ (λ (x y : List ℕ). x ++ (last ++ y)) before rest ∙ ap (λ (x : List ℕ). rows_to m s w i ++ (x ++ drop (12 * (i + 1)) old)) wrote
-      ∙ sym (append_assoc (rows_to m s w i) (row_at m s w i) (drop (12 * (i + 1)) old)) ∙ ap (λ (x : List ℕ). x ++ drop (12 * (i + 1)) old) (sym grown)
+      rw (is, wrote, k, take_at (rows_to m s w i) (drop (12 * i) old) (12 * i) front, drop_at (rows_to m s w i) (drop (12 * i) old) (12 * i) front, drop-drop 12 (12 * i) old, n, add-one i)
+      (sym (append_assoc (rows_to m s w i) (row_at m s w i) (drop (12 * suc i) old)))
+
+  -- the row of an action
+  pub row_more : (i here : ℕ) → here ≡ image m s (take (i + 1) w) → row_of (Some (get_or w i 0)) here ≡ row_at m s w (i + 1)
+  row_more i here is = rw (is, add-one i)
 
 -- ---- the set, brought along
 
@@ -73,25 +72,3 @@ module _ (m : Motion) (valid : Valid m) (s : ℕ) (w : List ℕ) (below : T (all
   along_more here n h e =
       ap (λ (x : ℕ). image m x (get_or w n 0 ∷ [])) e ∙ sym (image-append m valid s (take n w) (get_or w n 0 ∷ []) (front_below n))
       ∙ ap (image m s) (sym (take_more w n 0 h))
-
--- ---- what the code writes
-
-module _ (m : Motion) (s : ℕ) (w : List ℕ) where
-  -- the row of an action, by the place of the action
-  pub row_is : (i j here : ℕ) → i ≡ suc j → here ≡ image m s (take i w) → row_of (Some (get_or w j 0)) here ≡ row_at m s w i
-  row_is i j here e h =
-      ap (row_of (Some (get_or w j 0))) h ∙ ap (λ (a : Option ℕ). row_of a (image m s (take i w))) (sym (ap (performed w) e))
-
-  -- the first row, at the front of old
-  pub rows_start : s < 2 ^ m.poses → (old last : List ℕ) → last ≡ row_of None s → last ++ drop 12 old ≡ rows_to m s w 1 ++ drop 12 (last ++ drop 12 old)
-  rows_start h old last wrote =
-      let row : last ≡ rows_to m s w 1 = wrote ∙ ap (row_of None) (sym (image-empty m s h)) in
-      let rest : drop 12 (last ++ drop 12 old) ≡ drop 12 old = drop_at last (drop 12 old) 12 (ap length wrote ∙ row_length None s) in
-      ap₂ ◌++◌ row (sym rest)
-
-  -- the rows are all written: what follows them is of old
-  pub rows_end : (out old last : List ℕ) (i : ℕ) → i ≡ length w + 1 → last ≡ row_of None s → out ≡ rows_to m s w i ++ drop (12 * i) (last ++ drop 12 old) → out ≡ trace_of m s w ++ drop (12 * (length w + 1)) old
-  rows_end out old last i e wrote is =
-      let long : length last ≡ 12 = ap length wrote ∙ row_length None s in
-      is ∙ ap (λ (n : ℕ). rows_to m s w n ++ drop (12 * n) (last ++ drop 12 old)) e
-      ∙ ap (λ (x : List ℕ). trace_of m s w ++ x) (drop-append-drop 12 old last (12 * (length w + 1)) (omega arith) long)

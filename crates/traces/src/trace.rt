@@ -38,10 +38,11 @@ fn write_rows<F: Feeder>(feeder: &F, set: u32, list: &[u8], buffer: &mut [u8])
 {
     write_row(&mut buffer[0..12], None, set);
     let mut here = set;
-    for i in 1..list.len() + 1 {
-        let action = list[i - 1];
-        here = stepped(feeder, here, action);
-        write_row(&mut buffer[12 * i..12 * i + 12], Some(action), here);
+    for (i, action) in list.iter().enumerate() {
+        here = stepped(feeder, here, *action);
+        // The place by hand: of parts that `chunks_exact_mut` lends, nothing is known after the loop.
+        let start = 12 * (i + 1);
+        write_row(&mut buffer[start..start + 12], Some(*action), here);
     }
 }
 

@@ -1,5 +1,5 @@
 -- The shift divides by a power of 16.
-use Rattle.std.proofs.Common.{◌≡◌, ℕ, ◌^◌, ◌*◌, rules, arith}
+use Rattle.std.proofs.Common.{rules}
 use Rattle.traces.proofs.Rows.{bits_digits}
 use Rattle.traces.specs.Rows.{hex_at}
 use Rattle.traces.proofs.row.hex_digit.Goals as goal

@@ -1,5 +1,5 @@
--- What the loop keeps: the set is brought along, and the rows below `i` are written.
-use Rattle.std.proofs.Common.{◌≡◌, ◌-◌, ◌*◌, ◌++◌, take, drop}
+-- What the loop keeps: the set is brought along, and the rows up to that of action `i` are written.
+use Rattle.std.proofs.Common.{◌≡◌, ◌+◌, ◌*◌, ◌^◌, ◌<◌, ◌++◌, take, drop}
 use Rattle.feeders.specs.Image.{image}
 use Rattle.traces.specs.Trace.{rows_to}
 use Rattle.traces.proofs.trace.write_rows.Given as goal
@@ -7,4 +7,8 @@ use Rattle.traces.proofs.trace.write_rows.Given as goal
 abbrev pub invariant-loop-i : goal.invariant-loop-i
 invariant-loop-i g l =
     let m = g.F.Feeder.motion l.feeder in
-    (l.here ≡ image m l.set (take (l.i - 1) l.list)) × (l.buffer ≡ rows_to m l.set l.list l.i ++ drop (12 * l.i) l.initial.buffer)
+    record {
+      along : l.here ≡ image m l.set (take l.i l.list);
+      below : l.here < 2 ^ m.poses;
+      written : l.buffer ≡ rows_to m l.set l.list (l.i + 1) ++ drop (12 * (l.i + 1)) l.fn.buffer;
+    }
