@@ -8,7 +8,7 @@ use Rattle.graphs.specs.Distance.{Usable, Leads, Distance}
 use Rattle.graphs.specs.Certificate.{none, told, Passes}
 use Rattle.graphs.proofs.Distances.{leads_cons, distance_unique, goal-distance, distance_zero, distance_next, distance_step}
 use Rattle.graphs.proofs.Bounds.{distance_below}
-use Rattle.grounds.specs.Level.{Level, Sweeping, Swept, LeadsTo, LabelFound, IsNext, IsNotNext, first_entry}
+use Rattle.grounds.specs.Level.{Level, Sweeping, Swept, LeadsTo, LabelFound, NextIf, first_entry}
 
 -- ---- entries
 
@@ -89,12 +89,12 @@ farther g s d k v any table h none-there p l e (a ∷ w) q =
     ]
 
 -- a node that is not next is left as it is
-pub sweep_skips : (g : Graph) (s d k : ℕ) (any : Bool) (table : List ℕ) → Sound g → IsNotNext g s table d k → Sweeping g s d k any table → Sweeping g s d (k + 1) any table
+pub sweep_skips : (g : Graph) (s d k : ℕ) (any : Bool) (table : List ℕ) → Sound g → NextIf g s table d k false → Sweeping g s d k any table → Sweeping g s d (k + 1) any table
 sweep_skips g s d k any table h skipped p = record {
   known = p.known;
   far = p.far;
   passed = λ v l m e. elim (cases_eq v k) [
-    | inl q ↦ farther g s d k v any table h (subst (λ (i : ℕ). IsNotNext g s table d i) (sym q) skipped e) p l e
+    | inl q ↦ farther g s d k v any table h (subst (λ (i : ℕ). NextIf g s table d i false) (sym q) skipped e) p l e
     | inr n ↦ p.passed v l (omega arith) e
   ];
   given = p.given;
@@ -110,7 +110,7 @@ one_more g s d k a any table h l e small u f p =
       least = λ w q. p.far k l e w q;
     }
 
-pub sweep_gives : (g : Graph) (s d k : ℕ) (any : Bool) (table : List ℕ) → Sound g → d < none → k < g.nodes → k < length table → IsNext g s table d k → Sweeping g s d k any table → Sweeping g s d (k + 1) true (set table k (suc d))
+pub sweep_gives : (g : Graph) (s d k : ℕ) (any : Bool) (table : List ℕ) → Sound g → d < none → k < g.nodes → k < length table → NextIf g s table d k true → Sweeping g s d k any table → Sweeping g s d (k + 1) true (set table k (suc d))
 sweep_gives g s d k any table h small l in_table next p =
     let new : Distance g s k (suc d) = one_more g s d k next.1.0 any table h l next.0 small next.1.1.0 next.1.1.1 p in
     let same : told (set table k (suc d)) k ≡ suc d = told-set_same table k (suc d) in_table in

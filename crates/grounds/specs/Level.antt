@@ -37,9 +37,7 @@ abbrev pub LabelFound : Graph → ℕ → List ℕ → ℕ → ℕ → Option �
 LabelFound g s table v e (Some a) = LeadsTo g s table v e a × ((b : ℕ) → LeadsTo g s table v e b → a ≤ b)
 LabelFound g s table v e None = (b : ℕ) → LeadsTo g s table v e b → ⊥
 
--- Node v has no entry, and a usable label leads from it to entry d; or it has an entry, or no such label.
-abbrev pub IsNext : Graph → ℕ → List ℕ → ℕ → ℕ → Type 0
-IsNext g s table d v = (told table v ≡ none) × ((a : ℕ) × LeadsTo g s table v d a)
-
-abbrev pub IsNotNext : Graph → ℕ → List ℕ → ℕ → ℕ → Type 0
-IsNotNext g s table d v = told table v ≡ none → (b : ℕ) → LeadsTo g s table v d b → ⊥
+-- What is answered of node v after level d: it has no entry, and a usable label leads from it to entry d; or it has an entry, or no such label.
+abbrev pub NextIf : Graph → ℕ → List ℕ → ℕ → ℕ → Bool → Type 0
+NextIf g s table d v true = (told table v ≡ none) × ((a : ℕ) × LeadsTo g s table v d a)
+NextIf g s table d v false = told table v ≡ none → (b : ℕ) → LeadsTo g s table v d b → ⊥

@@ -1,8 +1,8 @@
 // The search for distances, level by level.
-ghost use Rattle.std.specs.Prelude.{◌≡◌, ◌<◌, ◌↔◌, IsTrue, MatchBool};
+ghost use Rattle.std.specs.Prelude.{◌≡◌, ◌<◌, ◌↔◌, IsTrue};
 ghost use Rattle.graphs.specs.Certificate.{none, told};
 ghost use Rattle.grounds.specs.Reach.{entry_of};
-ghost use Rattle.grounds.specs.Level.{Level, LeadsTo, LabelFound, IsNext, IsNotNext, Swept, first_entry};
+ghost use Rattle.grounds.specs.Level.{Level, LeadsTo, LabelFound, NextIf, Swept, first_entry};
 
 use crate::ground::Ground;
 use feeders::has;
@@ -84,7 +84,7 @@ impl<'g, G: Ground> Levels<'g, G> {
     fn is_next(&self, node: u32, level: u32) -> bool
         requires inside { node < (G.Ground.graph self.now.ground.now).nodes }
         requires some { level < none }
-        ensures { MatchBool result (IsNext (G.Ground.graph self.now.ground.now) self.now.permitted self.now.table level node) (IsNotNext (G.Ground.graph self.now.ground.now) self.now.permitted self.now.table level node) }
+        ensures { NextIf (G.Ground.graph self.now.ground.now) self.now.permitted self.now.table level node result }
     {
         self.entry(node).is_none() && self.label_to(node, level).is_some()
     }
@@ -97,6 +97,7 @@ impl<'g, G: Ground> Levels<'g, G> {
         ensures swept { Swept (G.Ground.graph self.new.ground.now) self.new.permitted level result self.new.table }
     {
         let mut any = false;
+        // By numbers: each turn reads the whole table before it writes one entry.
         for node in 0..self.ground.nodes() {
             if self.is_next(node, level) {
                 self.table[node as usize] = (level + 1) as u16;

@@ -1,19 +1,23 @@
 -- How many times numbers stand in a list, and what follows where each stands there once.
-use Rattle.std.proofs.Common.{◌≡◌, ℕ, zero, suc, ◌+◌, ◌<◌, ◌≤◌, cond, eqb, ltb, List, [], ◌∷◌, length, get_or, drop, refl, ◌∙◌, inl, inr, arith}
-use Rattle.std.proofs.lemmas.List.{at_drop_more}
+use Rattle.std.proofs.Common.{◌≡◌, ℕ, zero, suc, ◌+◌, ◌<◌, ◌≤◌, Bool, true, false, cond, eqb, ltb, List, [], ◌∷◌, length, get_or, refl, ◌∙◌, inl, inr, arith}
+use Rattle.std.specs.List.{count_by}
+use Rattle.std.proofs.lemmas.List.Sums.{sum_by-cons, count_by-le-length}
 use Rattle.std.proofs.lemmas.Bool.{cases_eq, cases_lt, cond-true, cond-false, eq-eqb, ne_eqb, lt-ltb, le-ltb}
 use Rattle.layers.specs.Once.{times, OnceEach}
 
 -- ---- one entry
 
-pub times_same : (q x : ℕ) (w : List ℕ) → x ≡ q → times q (x ∷ w) ≡ suc (times q w)
-times_same q x w e = cond-true (eqb x q) (suc (times q w)) (times q w) (eq-eqb x q e)
+counted : (p : ℕ → Bool) (x : ℕ) (w : List ℕ) → p x ≡ true → count_by p (x ∷ w) ≡ suc (count_by p w)
+counted p x w e = omega (arith, sum_by-cons (λ y. cond (p y) 1 0) x w, cond-true {A = ℕ} (p x) 1 0 e)
 
-pub times_other : (q x : ℕ) (w : List ℕ) → (x ≡ q → ⊥) → times q (x ∷ w) ≡ times q w
-times_other q x w ne = cond-false (eqb x q) (suc (times q w)) (times q w) (ne_eqb x q ne)
+passed_over : (p : ℕ → Bool) (x : ℕ) (w : List ℕ) → p x ≡ false → count_by p (x ∷ w) ≡ count_by p w
+passed_over p x w e = omega (arith, sum_by-cons (λ y. cond (p y) 1 0) x w, cond-false {A = ℕ} (p x) 1 0 e)
 
-pub times-drop : (q : ℕ) (w : List ℕ) (i : ℕ) → i < length w → times q (drop i w) ≡ times q (get_or w i 0 ∷ drop (i + 1) w)
-times-drop q w i h = at_drop_more (times q) w i 0 h
+times_same : (q x : ℕ) (w : List ℕ) → x ≡ q → times q (x ∷ w) ≡ suc (times q w)
+times_same q x w e = counted (λ y. eqb y q) x w (eq-eqb x q e)
+
+times_other : (q x : ℕ) (w : List ℕ) → (x ≡ q → ⊥) → times q (x ∷ w) ≡ times q w
+times_other q x w ne = passed_over (λ y. eqb y q) x w (ne_eqb x q ne)
 
 -- ---- places
 
@@ -49,14 +53,13 @@ times_at_two (x ∷ w) (suc i) (suc j) l h e =
 -- ---- the entries below a limit
 
 abbrev under : ℕ → List ℕ → ℕ
-under n [] = 0
-under n (x ∷ w) = cond (ltb x n) (suc (under n w)) (under n w)
+under n w = count_by (λ x. ltb x n) w
 
 under_in : (n x : ℕ) (w : List ℕ) → x < n → under n (x ∷ w) ≡ suc (under n w)
-under_in n x w h = cond-true (ltb x n) (suc (under n w)) (under n w) (lt-ltb x n h)
+under_in n x w h = counted (λ y. ltb y n) x w (lt-ltb x n h)
 
 under_out : (n x : ℕ) (w : List ℕ) → n ≤ x → under n (x ∷ w) ≡ under n w
-under_out n x w h = cond-false (ltb x n) (suc (under n w)) (under n w) (le-ltb x n h)
+under_out n x w h = passed_over (λ y. ltb y n) x w (le-ltb x n h)
 
 under-zero : (w : List ℕ) → under 0 w ≡ 0
 under-zero [] = refl
@@ -80,16 +83,10 @@ under_once zero w each = under-zero w
 under_once (suc n) w each =
     omega (arith, under-suc n w, under_once n w (λ q h. each q (omega arith)), each n (omega arith))
 
-under-length : (n : ℕ) (w : List ℕ) → under n w ≤ length w
-under-length n [] = omega arith
-under-length n (x ∷ w) =
-    let k = under-length n w in
-    elim (cases_lt x n) [ inl l ↦ omega (arith, k, under_in n x w l) | inr g ↦ omega (arith, k, under_out n x w g) ]
-
 -- an entry that is not below n leaves fewer
 under_fewer : (n : ℕ) (w : List ℕ) (i : ℕ) → i < length w → n ≤ get_or w i 0 → under n w < length w
 under_fewer n [] i h g = absurd (let z : ⊥ = omega arith in z)
-under_fewer n (x ∷ w) zero h g = omega (arith, under_out n x w g, under-length n w)
+under_fewer n (x ∷ w) zero h g = omega (arith, under_out n x w g, count_by-le-length (λ y. ltb y n) w)
 under_fewer n (x ∷ w) (suc i) h g =
     let k = under_fewer n w i (omega arith) g in
     elim (cases_lt x n) [ inl l ↦ omega (arith, k, under_in n x w l) | inr r ↦ omega (arith, k, under_out n x w r) ]

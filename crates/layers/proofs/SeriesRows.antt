@@ -67,7 +67,4 @@ module _ {n m : ℕ} (rows : Bounded (Bounded ℕ n) m) (i a : ℕ) (r s : Bound
   keeps-after k = subst Keeps (sym rows-longer) (keeps-longer before i a inside small short k)
 
   pub lengthened-is : lengthened before i a ≡ Ok after
-  lengthened-is =
-      let lt = inside in
-      let few = short in
-      let e = rows-longer in grind (arith, nat_tests, e)
+  lengthened-is = grind (arith, nat_tests, inside, short, rows-longer)

@@ -1,10 +1,9 @@
 -- Lists that hold each number below their length exactly once.
-use Rattle.std.specs.Prelude.{◌≡◌, ℕ, suc, ◌<◌, ◌≤◌, cond, List, [], ◌∷◌, length, ◌==◌}
+use Rattle.std.specs.Prelude.{◌≡◌, ℕ, ◌<◌, ◌≤◌, List, length, count_by, ◌==◌}
 
 -- how many times q stands in the list
 abbrev pub times : ℕ → List ℕ → ℕ
-times q [] = 0
-times q (x ∷ w) = cond (x == q) (suc (times q w)) (times q w)
+times q w = count_by (λ x. x == q) w
 
 abbrev pub OnceEach : List ℕ → Type 0
 OnceEach list = (q : ℕ) → q < length list → times q list ≡ 1

@@ -1,7 +1,7 @@
 // A renumbering layer: the poses of the feeder below under other numbers.
 ghost use Rattle.std.specs.Prelude.{◌≡◌};
 ghost use Rattle.feeders.specs.Motion.{Same};
-ghost use Rattle.layers.specs.Numbered.{numbering_of, numbering_kept};
+ghost use Rattle.layers.specs.Numbered.{numbering_of};
 ghost use Rattle.layers.specs.Renumbering.{above as above_of, renumbered_motion, Renames};
 ghost use Rattle.layers.specs.RenumberingFacts.{renumbered_valid};
 
@@ -31,7 +31,7 @@ impl<F: Feeder> Renumbering<F> {
 impl<F: Feeder> Feeder for Renumbering<F> {
     ghost motion = { λ s. renumbered_motion (F.Feeder.motion s.below) (numbering_of s.table) };
 
-    ghost valid = { λ s. renumbered_valid (F.Feeder.motion s.below) (numbering_of s.table) (F.Feeder.valid s.below) (numbering_kept s.table) };
+    ghost valid = { λ s. renumbered_valid (F.Feeder.motion s.below) (numbering_of s.table) (F.Feeder.valid s.below) s.table.keeps };
 
     fn poses(&self) -> u32 {
         self.below.poses()
@@ -46,11 +46,8 @@ impl<F: Feeder> Feeder for Renumbering<F> {
         if pose >= poses {
             return Err(Refusal::NoPose);
         }
-        if action >= self.below.actions() {
-            return Err(Refusal::NoAction);
-        }
         let from = self.table.below(poses, pose);
-        let to = self.below.follow(from, action).unwrap();
+        let to = self.below.follow(from, action)?;
         Ok(self.table.above(poses, to))
     }
 }

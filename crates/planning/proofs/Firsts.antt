@@ -1,5 +1,5 @@
 -- The first of the pairs that a function gives for numbers.
-use Rattle.std.proofs.Common.{◌≡◌, ℕ, zero, suc, ◌+◌, ◌<◌, ◌≤◌, ◌⊎◌, List, [], ◌∷◌, Some, None, Option, sym, refl, ap, ◌∙◌, subst, inl, inr, arith}
+use Rattle.std.proofs.Common.{◌≡◌, ℕ, zero, suc, ◌+◌, ◌<◌, ◌≤◌, ◌⊎◌, Some, None, Option, sym, refl, ap, ◌∙◌, subst, inl, inr, arith}
 use Rattle.std.specs.List.{fold, filter_map, range_with_len, reduce, cons_option}
 use Rattle.std.specs.Ordering.{MatchOrdering, nat_cmp, ordering_then, min_by_ordering}
 use Rattle.std.specs.declared.cmp.Ordering.{Ordering}

@@ -1,10 +1,7 @@
 -- The node of a pair of the set, and that the ground and the table have it.
-use Rattle.std.proofs.Common.{◌≡◌, ℕ, ◌+◌, ◌^◌, ◌<◌, Bool, true, cond, ◌&&◌, ltb, List, Ok, Err, Result, ap, ◌∙◌, arith}
+use Rattle.std.proofs.Common.{◌≡◌, ℕ, ◌+◌, ◌<◌, Bool, true, cond, ◌&&◌, ltb, List, Ok, Err, Result, ap, ◌∙◌, arith}
 use Rattle.std.proofs.lemmas.Bool.{cond-true, lt-ltb}
-use Rattle.std.specs.Result.{is_ok}
 use Rattle.refusals.specs.declared.Refusal.TheVariants.{NoPose}
-use Rattle.feeders.specs.Sets.{has}
-use Rattle.feeders.proofs.Sets.{has-below, T_of_true}
 use Rattle.graphs.specs.Pairs.{start, pair_node, node_of}
 use Rattle.graphs.proofs.Meeting.{node_of-less}
 use Rattle.graphs.proofs.Numbering.{pair_inside}

@@ -1,5 +1,5 @@
 -- A way appended to a list, one label after the other.
-use Rattle.std.proofs.Common.{◌≡◌, ℕ, zero, suc, ◌+◌, ◌<◌, ◌≤◌, T, leb, List, [], ◌∷◌, ◌++◌, length, Some, None, Ok, Err, Option, Result, sym, refl, ap, ◌∙◌, subst, inl, inr, append_assoc, append-nil, arith, length-append}
+use Rattle.std.proofs.Common.{◌≡◌, ℕ, zero, suc, ◌<◌, T, leb, List, [], ◌∷◌, ◌++◌, length, Some, None, Ok, Err, Result, sym, ap, ◌∙◌, subst, inl, inr, append_assoc, append-nil, arith, length-append}
 use Rattle.std.proofs.lemmas.Bool.{cases_lt, cond-true, cond-false, le-leb, lt-leb}
 use Rattle.refusals.specs.declared.Refusal.{Refusal}
 use Rattle.refusals.specs.declared.Refusal.TheVariants.{PlanTooLong}
@@ -8,11 +8,11 @@ use Rattle.plans.specs.declared.plan.Plan.{Plan}
 use Rattle.plans.specs.Held.{list_of}
 use Rattle.plans.specs.Calls.{put, pushed}
 use Rattle.graphs.specs.Graph.{Graph, Sound}
-use Rattle.graphs.specs.Distance.{Distance, First, Way}
+use Rattle.graphs.specs.Distance.{Distance, Way}
 use Rattle.graphs.specs.Distance.Way.{there, onward}
 use Rattle.graphs.proofs.Distances.{distance_unique, distance_zero}
 use Rattle.grounds.specs.Reach.{StepsTo}
-use Rattle.planning.specs.Walk.{Fits, Extends, Walking}
+use Rattle.planning.specs.Walk.{Extends, Walking}
 
 module _ (g : Graph) (s v u : ℕ) (before after : List ℕ) (ok : Sound g) (walking : Walking g s v u before after) where
   -- label a is the next one of the way, and leads to x

@@ -5,8 +5,11 @@ ghost use Rattle.planning.specs.Aimed.{Aimed};
 use crate::way::append_way;
 use feeders::Feeder;
 use grounds::{Distances, PoseGround};
-use plans::{Plan, ROOM};
+use plans::Plan;
 use refusals::Refusal;
+
+// How many actions a plan has room for.
+const ROOM: usize = 16384;
 
 // The way from the pose `from` to the pose `goal`, by permitted actions, is appended to the plan.
 // Refuses an absent pose, then a goal to which no permitted actions lead, then a way for which the plan has no room; then the plan is as it was.
@@ -22,9 +25,7 @@ pub fn append_way_to<F: Feeder>(
 {
     let ground = PoseGround::new(feeder, goal)?;
     let distances = Distances::measure(&ground, permitted);
-    let away = distances
-        .distance(from)?
-        .ok_or(Refusal::CannotEndThere)?;
+    let away = distances.distance(from)?.ok_or(Refusal::CannotEndThere)?;
     if plan.len() + away as usize > ROOM {
         return Err(Refusal::PlanTooLong);
     }

@@ -35,7 +35,12 @@ fn nearest_with<F: Feeder>(distances: &Distances<PairGround<F>>, set: u32, p: u3
 }
 
 // The pair p < q, if it is one of the set and has a distance.
-fn pair_at<F: Feeder>(distances: &Distances<PairGround<F>>, set: u32, p: u32, q: u32) -> Option<Pair>
+fn pair_at<F: Feeder>(
+    distances: &Distances<PairGround<F>>,
+    set: u32,
+    p: u32,
+    q: u32,
+) -> Option<Pair>
     requires set_bound { set < 2 ^ (F.Feeder.motion distances.now.levels.ground.now.feeder.now).poses }
     requires p_lt_q { p < q }
     ensures { result ≡ pair_of distances.now.levels.table set p q }

@@ -1,10 +1,9 @@
 -- The answers of the calls on the pose ground, each in the words of ways.
-use Rattle.std.proofs.Common.{◌≡◌, ℕ, ◌+◌, ◌<◌, length, Some, None, Ok, refl, subst, inl, inr, arith}
+use Rattle.std.proofs.Common.{◌≡◌, ◌+◌, ◌<◌, length, Some, None, Ok, refl, subst, inl, inr, arith}
 use Rattle.std.proofs.lemmas.Result.{err_from_is_err_and}
 use Rattle.refusals.specs.declared.Refusal.TheVariants.{CannotEndThere}
 use Rattle.plans.specs.Held.{list_of}
 use Rattle.graphs.specs.Poses.{pose_graph}
-use Rattle.graphs.specs.Distance.{Distance}
 use Rattle.graphs.specs.Certificate.{Passes}
 use Rattle.graphs.proofs.Numbering.{pose_sound}
 use Rattle.graphs.proofs.PoseRules.{pose_laws}

@@ -1,5 +1,5 @@
 -- The first of the pairs that the chain gives.
-use Rattle.std.proofs.Common.{◌≡◌, ◌+◌, ◌-◌, refl, rules, tests}
+use Rattle.std.proofs.Common.{◌+◌, ◌-◌, refl, rules, tests}
 use Rattle.std.proofs.lemmas.Iterator.{YieldsList-from_range}
 use Rattle.std.proofs.lemmas.Iterator.Consumers.{YieldsList-from_filter_map, reduce_from_yields_List}
 use Rattle.planning.specs.Nearest.{pair_of, first_of}

@@ -1,18 +1,14 @@
 -- How each round keeps what is promised.
-use Rattle.std.proofs.Common.{◌≡◌, ◌<◌, ◌≤◌, ◌^◌, Some, None, Ok, is_ok, sym, refl, ap, ◌∙◌, subst, inl, inr, arith, rules, ltb}
+use Rattle.std.proofs.Common.{◌≡◌, ◌<◌, ◌≤◌, ◌^◌, Some, None, is_ok, sym, refl, ap, ◌∙◌, inl, inr}
 use Rattle.std.proofs.lemmas.Bool.{ltb-true, ltb-false}
 use Rattle.std.proofs.lemmas.Result.{err_from_is_err_and}
 use Rattle.refusals.specs.declared.Refusal.TheVariants.{CannotOrient}
-use Rattle.feeders.specs.Image.{image}
 use Rattle.plans.specs.Held.{list_of}
 use Rattle.graphs.specs.Pairs.{pair_node, pair_graph}
 use Rattle.graphs.specs.PairRule.{Nearest}
-use Rattle.graphs.specs.Certificate.{Passes}
 use Rattle.graphs.proofs.PairRules.{pair_laws}
-use Rattle.grounds.proofs.Searches.{passing}
-use Rattle.planning.specs.Round.{size, Round}
+use Rattle.planning.specs.Round.{size}
 use Rattle.planning.specs.Walk.{Extends}
-use Rattle.planning.specs.Nearest.{Found, nearest_of}
 use Rattle.planning.proofs.Endings.{exact_planned, exact_stuck, exact_empty, exact_no_pose}
 use Rattle.planning.proofs.Pairing.{node_is, same_Ok}
 use Rattle.planning.proofs.Rounds.{round-starts, round_met, round_apart, round_fits, round_ones, pair_below}
