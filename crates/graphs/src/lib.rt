@@ -8,22 +8,19 @@ ghost use Rattle.graphs.specs.PairRule.{PairLaws};
 ghost use Rattle.graphs.specs.PoseLaws.{PoseLaws};
 
 // What is proved of distances and ways.
-pub fn distances_stand() -> u8
+pub fn distances_stand()
     ensures { DistanceLaws }
 {
-    0
 }
 
 // What is proved of the pair rule.
-pub fn pair_rule_stands() -> u8
+pub fn pair_rule_stands()
     ensures { (m : Motion) (perm : ℕ) → Valid m → PairLaws m perm }
 {
-    0
 }
 
 // What is proved of the ways from pose to pose.
-pub fn pose_ground_stands() -> u8
+pub fn pose_ground_stands()
     ensures { (m : Motion) (perm : ℕ) → Valid m → PoseLaws m perm }
 {
-    0
 }

@@ -8,15 +8,13 @@ mod call;
 pub use call::{Answer, Call};
 
 // Whatever the rules make of the calls, no held plan leaves doubt, and no refusal is false.
-pub fn rules_are_sure() -> u8
+pub fn rules_are_sure()
     ensures { RulesAreSure }
 {
-    0
 }
 
 // The calls determine what is answered and held.
-pub fn rules_determine() -> u8
+pub fn rules_determine()
     ensures { Determined }
 {
-    0
 }

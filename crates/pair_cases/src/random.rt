@@ -9,7 +9,7 @@ pub struct Random {
 }
 
 impl Random {
-    // The row that begins from the seed.
+    // The row that begins from a seed.
     pub fn new(seed: u32) -> Self {
         Random { state: seed }
     }

@@ -5,11 +5,8 @@ ghost use Rattle.planning.specs.Aimed.{Aimed};
 use crate::way::append_way;
 use feeders::Feeder;
 use grounds::{Distances, PoseGround};
-use plans::Plan;
+use plans::{Plan, ROOM};
 use refusals::Refusal;
-
-// How many actions a plan has room for.
-const ROOM: usize = 16384;
 
 // The way from the pose `from` to the pose `goal`, by permitted actions, is appended to the plan.
 // Refuses an absent pose, then a goal to which no permitted actions lead, then a way for which the plan has no room; then the plan is as it was.

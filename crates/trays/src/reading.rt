@@ -17,10 +17,10 @@ const LONGEST_SIDE: u32 = 16;
 const MOST_FREE: u32 = 32;
 
 // The byte of a free cell, a dot.
-const FREE: u8 = 0x2E;
+const FREE: u8 = b'.';
 
 // The byte of a wall, a hash.
-const WALL: u8 = 0x23;
+const WALL: u8 = b'#';
 
 impl Tray {
     // The tray that a sheet's fields describe.
