@@ -26,3 +26,7 @@ gates_valid t k = record {
 
 pub row_valid : (r : GateRow) → Valid (gate_motion (gates_of r))
 row_valid r = gates_valid (gates_of r) r.keeps
+
+-- every row keeps the rule
+pub held_keeps : (r : GateRow) → Keeps (gates_of r)
+held_keeps r = r.keeps

@@ -1,11 +1,15 @@
 -- What a renumbering table holds.
 use Rattle.std.specs.Prelude.{◌≡◌, ℕ, ◌<◌, ◌≤◌, List, length, take, slice_index}
 use Rattle.layers.specs.Once.{Fills}
-use Rattle.layers.specs.Renumbering.{Numbering}
+use Rattle.layers.specs.Renumbering.{Numbering, Keeps}
 use Rattle.layers.specs.declared.numbering.RenumberTable.{RenumberTable}
 
 abbrev pub numbering_of : RenumberTable → Numbering
 numbering_of t = record { count = t.count; number = t.number; place = t.place }
+
+-- every table keeps the rule
+pub numbering_kept : (t : RenumberTable) → Keeps (numbering_of t)
+numbering_kept t = t.keeps
 
 -- A table that renumbers nothing: each place holds its own number.
 pub record Unchanged (t : Numbering) : Type 0 where

@@ -1,11 +1,12 @@
 -- Every squeeze table keeps the rule, and the motion of whatever keeps the rule is that of a feeder.
-use Rattle.std.specs.Prelude.{ℕ, suc, ◌+◌, ◌-◌, ◌%◌, ◌<◌, ◌≤◌, cond, List, [], ◌∷◌, length, nat_le, slice_index}
-use Rattle.std.proofs.Common.{arith}
+use Rattle.std.specs.Prelude.{◌≡◌, ℕ, suc, ◌+◌, ◌-◌, ◌%◌, ◌<◌, ◌≤◌, cond, List, [], ◌∷◌, length, take, nat_le, slice_index}
+use Rattle.std.proofs.Common.{arith, ap}
+use Rattle.std.proofs.lemmas.List.{get_or-take}
 use Rattle.std.proofs.lemmas.Bool.{cond_both}
 use Rattle.feeders.specs.Motion.{Valid}
 use Rattle.squeeze.specs.declared.step.Step.{Step}
 use Rattle.squeeze.specs.declared.table.SqueezeTable.{SqueezeTable}
-use Rattle.squeeze.specs.Squeeze.{Squeeze, Keeps, rest, last_not_above, step_of, squeeze_motion}
+use Rattle.squeeze.specs.Squeeze.{Squeeze, Keeps, blank, begin, rest, last_not_above, step_of, squeeze_motion}
 use Rattle.squeeze.specs.Held.{squeeze_of}
 
 -- a step that is found is one of those looked at, or the one given for none
@@ -25,6 +26,13 @@ squeeze_valid t k = record {
   few_actions = k.few_turns;
   stays = λ p a _ _. step_within t.steps ((rest t.steps p + slice_index t.turns a) % t.ticks) k.some_step;
 }
+
+-- the steps in front are those of the whole
+pub begin-take : (n : ℕ) (ss : List Step) (i : ℕ) → i < n → begin (take n ss) i ≡ begin ss i
+begin-take n ss i h = ap (λ (s : Step). s.begin) (get_or-take n ss i blank h)
+
+pub rest-take : (n : ℕ) (ss : List Step) (i : ℕ) → i < n → rest (take n ss) i ≡ rest ss i
+rest-take n ss i h = ap (λ (s : Step). s.rest) (get_or-take n ss i blank h)
 
 pub keeps : (t : SqueezeTable) → Keeps (squeeze_of t)
 keeps t = t.keeps
