@@ -7,5 +7,4 @@ ghost use Rattle.cases.specs.Worked.{worked_cases};
 // Every worked case holds, by the definitions that the other crates' contracts cite.
 pub fn worked_cases_stand()
     ensures { AllHold worked_cases }
-{
-}
+{}

@@ -10,11 +10,9 @@ pub use call::{Answer, Call};
 // Whatever the rules make of the calls, no held plan leaves doubt, and no refusal is false.
 pub fn rules_are_sure()
     ensures { RulesAreSure }
-{
-}
+{}
 
 // The calls determine what is answered and held.
 pub fn rules_determine()
     ensures { Determined }
-{
-}
+{}

@@ -31,8 +31,7 @@ loop-filled-preserved g c =
     let k = length buf - i in
     let room : i ≤ length buf = c.loop-filled.invariant.0 in
     let first : length (take i buf) ≡ i = length-take-le i buf room in
-    let front : take (i + n) (put_mid i k buf new) ≡ take i buf ++ take n new = front_then i k n buf new room c.in_ok-more.ensures.bound.0 in
-    (
+    let front : take (i + n) (put_mid i k buf new) ≡ take i buf ++ take n new = front_then i k n buf new room c.in_ok-more.ensures.bound.0 in (
       search rules,
       search rules,
       subst (Consumes (g.R.Read.remaining c.args.source.now) (g.R.Read.remaining c.read.new.self)) (sym front) (consumes_both _ _ _ (take i buf) (take n new) c.loop-filled.invariant.2 c.in_ok-more.ensures.bytes.0),
