@@ -5,7 +5,7 @@ use Rattle.refusals.specs.declared.Refusal.TheVariants.{OutsideLimit}
 use Rattle.numbers.specs.Field.{field_at, and_then, rest_of, whole_of, Takes}
 use Rattle.numbers.specs.Grammar.{number, tested, ended, within}
 use Rattle.numbers.specs.declared.fields.Fields.{Fields}
-use Rattle.numbers.proofs.Field.{below_at, field_takes, takes_below}
+use Rattle.numbers.proofs.Field.{below_at, field_takes, takes_below, ended_then}
 use Rattle.lists.specs.declared.bounded.Bounded.{Bounded}
 use Rattle.lists.specs.Held.{list_of}
 use Rattle.gates.specs.declared.gate.Gate.{Gate}
@@ -76,10 +76,6 @@ poses_taken before after r h = field_takes (within 1 32) OutsideLimit (whole_of 
 
 pub count_taken : (whole : List ℕ) (n : ℕ) (before after : Fields) (r : Result ℕ Fault) → whole_of before ≡ whole → Takes (field_at (within 1 32) OutsideLimit) before after r → Counted whole n (rest_of before) ≡ and_then r (λ k. gates_left whole n k [] (rest_of after))
 count_taken whole n before after r same h = field_takes (within 1 32) OutsideLimit whole before after r (λ k rest. gates_left whole n k [] rest) same h
-
-pub ended_then : {X : Type 0} (whole rest : List ℕ) (x : X) → ended whole rest x ≡ and_then (ended whole rest (tt {0})) (λ u. Ok x)
-ended_then whole [] x = refl
-ended_then whole (b ∷ rest) x = refl
 
 -- so far, a row's fields are the gates that come after its two numbers
 pub counts_taken : (first middle last : Fields) (n k : ℕ) → Takes (field_at (within 1 32) OutsideLimit) first middle (Ok n) → Takes (field_at (within 1 32) OutsideLimit) middle last (Ok k) → (gate_fields (whole_of first) (rest_of first) ≡ gates_left (whole_of last) n k [] (rest_of last)) × (whole_of last ≡ whole_of first)

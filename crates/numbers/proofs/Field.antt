@@ -1,5 +1,5 @@
 -- A number field of a sheet: what follows it, or its fault.
-use Rattle.std.proofs.Common.{◌≡◌, ℕ, ◌^◌, ◌<◌, Bool, true, ltb, List, [], ◌∷◌, ◌++◌, Ok, Err, Result, refl, ◌∙◌, arith}
+use Rattle.std.proofs.Common.{◌≡◌, ℕ, ◌^◌, ◌<◌, Bool, true, ltb, List, [], ◌∷◌, ◌++◌, Ok, Err, Result, refl, ap, ◌∙◌, arith}
 use Rattle.refusals.specs.declared.Refusal.{Refusal}
 use Rattle.refusals.specs.declared.Refusal.TheVariants.{OutsideLimit}
 use Rattle.refusals.specs.declared.Fault.{Fault}
@@ -7,7 +7,7 @@ use Rattle.numbers.specs.Number.{Read, number_at, spell}
 use Rattle.numbers.specs.Field.{field_at, and_then, number_in, byte_at, whole_of, rest_of, Takes, OfKind}
 use Rattle.std.proofs.lemmas.Bool.Decides.{nat_tests}
 use Rattle.numbers.specs.declared.fields.Fields.{Fields}
-use Rattle.numbers.specs.Grammar.{number, byte, number_fault, tested, kinded, within}
+use Rattle.numbers.specs.Grammar.{number, byte, number_fault, tested, ended, kinded, within}
 use Rattle.numbers.proofs.Spelling.{number_at-spell, number_at_only}
 
 -- the field, from what was read
@@ -61,6 +61,11 @@ pub takes_then : {X : Type 0} (reader : List ℕ → List ℕ → Result Read Fa
 takes_then reader whole before after (Ok v) go is h = grind arith
 takes_then reader whole before after (Err e) go is h = grind arith
 
+-- what was taken leaves the sheet as it was
+pub takes_whole : (reader : List ℕ → List ℕ → Result Read Fault) (before after : Fields) (r : Result ℕ Fault) → Takes reader before after r → whole_of after ≡ whole_of before
+takes_whole reader before after (Ok v) h = h.1
+takes_whole reader before after (Err e) h = ap (λ f. whole_of f) h.1
+
 -- so for a number that passes a test, for a number with no test, and for one byte
 pub field_takes : {X : Type 0} (test : ℕ → Bool) (e : Refusal) (whole : List ℕ) (before after : Fields) (r : Result ℕ Fault) (go : ℕ → List ℕ → Result X Fault) → whole_of before ≡ whole → Takes (field_at test e) before after r → number whole (rest_of before) (λ v rest. tested (test v) e whole (rest_of before) (go v rest)) ≡ and_then r (λ v. go v (rest_of after))
 field_takes test e whole before after r go is h =
@@ -78,6 +83,11 @@ byte_takes whole before after r go is h =
 pub takes_below : (end n : ℕ) (before after : Fields) (r : Result ℕ Fault) → end ≡ n → Takes (below_at end) before after r → Takes (below_at n) before after r
 takes_below end n before after (Ok v) is h = grind arith
 takes_below end n before after (Err e) is h = grind arith
+
+-- What ends a sheet is that nothing is left, and then what was read.
+pub ended_then : {X : Type 0} (whole rest : List ℕ) (x : X) → ended whole rest x ≡ and_then (ended whole rest (tt {0})) (λ u. Ok x)
+ended_then whole [] x = refl
+ended_then whole (b ∷ rest) x = refl
 
 -- A sheet of one kind is what its fields are, and another has the fault.
 kinded_then : {X : Type 0} (k : ℕ) (sheet : List ℕ) (go : List ℕ → Result X Fault) → kinded k sheet go ≡ and_then (kinded k sheet (λ rest. Ok rest)) go

@@ -1,31 +1,18 @@
 -- What comes of the fields before a part of a sheet comes of what the part gave and the fields after it.
-use Rattle.std.proofs.Common.{◌≡◌, ℕ, suc, ◌+◌, ◌-◌, ◌<◌, true, ltb, List, [], ◌∷◌, ◌++◌, Ok, Err, Result, sym, refl, ap, ◌∙◌, subst, arith}
+use Rattle.std.proofs.Common.{◌≡◌, ℕ, suc, ◌+◌, ◌-◌, ◌<◌, true, ltb, List, [], ◌∷◌, ◌++◌, Ok, Result, sym, refl, ap, ◌∙◌, subst, arith}
 use Rattle.refusals.specs.declared.Fault.{Fault}
 use Rattle.refusals.specs.declared.Refusal.TheVariants.{OutsideLimit, OutOfOrder}
 use Rattle.lists.specs.declared.bounded.Bounded.{Bounded}
-use Rattle.lists.specs.declared.full.Full.{Full}
-use Rattle.lists.specs.Calls.{Appends}
 use Rattle.lists.specs.Held.{list_of}
-use Rattle.numbers.specs.Number.{Read}
 use Rattle.numbers.specs.declared.fields.Fields.{Fields}
 use Rattle.numbers.specs.Field.{Takes, and_then, number_in, rest_of, whole_of}
 use Rattle.numbers.specs.Grammar.{number, tested, ended, within}
-use Rattle.numbers.proofs.Field.{below_at, limited_at, field_takes, number_takes, takes_below}
+use Rattle.numbers.proofs.Field.{below_at, limited_at, field_takes, number_takes, takes_below, ended_then}
 use Rattle.numbers.proofs.Grammar.{tested_true}
 use Rattle.squeeze.specs.declared.step.Step.{Step}
 use Rattle.squeeze.specs.Squeeze.{Squeeze}
 use Rattle.squeeze.specs.Reading.{TakesStep, TakesSteps, TakesTurns}
 use Rattle.squeeze.specs.Sheet.{turns_left, follows, settles, steps_left, squeeze_fields}
-
--- what is read is of the same sheet
-pub takes_whole : (reader : List ℕ → List ℕ → Result Read Fault) (before after : Fields) (r : Result ℕ Fault) → Takes reader before after r → whole_of after ≡ whole_of before
-takes_whole reader before after (Ok v) h = h.1
-takes_whole reader before after (Err e) h = ap (λ f. whole_of f) h.1
-
--- an item that had room is the last
-pub pushed : {T : Type 0} (x : T) (before after : Bounded T 32) (r : Result (Unit {0}) Full) (u : Unit {0}) → r ≡ Ok u → Appends (x ∷ []) before after r → list_of after ≡ list_of before ++ (x ∷ [])
-pushed x before after (Ok v) u e h = h.1
-pushed x before after (Err f) u e h = absurd (cc)
 
 -- the next of count turns, where i are read
 pub turn_takes : (whole : List ℕ) (end ticks : ℕ) (steps : List Step) (count i : ℕ) (read : List ℕ) (before after : Fields) (r : Result ℕ Fault) → i < count → end ≡ ticks → whole_of before ≡ whole → Takes (below_at end) before after r
@@ -68,10 +55,6 @@ after_step_count whole ticks m rest = number whole rest (λ k r. tested (within 
 abbrev pub after_ticks : List ℕ → ℕ → List ℕ → Result Squeeze Fault
 after_ticks whole ticks rest = number whole rest (λ m r. tested (within 1 32 m) OutsideLimit whole rest (after_step_count whole ticks m r))
 
-ended_by : (whole rest : List ℕ) (t : Squeeze) → ended whole rest t ≡ and_then (ended whole rest (tt {0})) (λ u. Ok t)
-ended_by whole [] t = refl
-ended_by whole (b ∷ rest) t = refl
-
 module _ (f₀ f₁ : Fields) where
   pub ticks_then : (r : Result ℕ Fault) → Takes (limited_at 2 36000) f₀ f₁ r → squeeze_fields (whole_of f₀) (rest_of f₀) ≡ and_then r (λ t. after_ticks (whole_of f₀) t (rest_of f₁))
   ticks_then r h = field_takes (within 2 36000) OutsideLimit (whole_of f₀) f₀ f₁ r (after_ticks (whole_of f₀)) refl h
@@ -102,9 +85,9 @@ module _ (f₀ f₁ f₂ f₃ : Fields) (t m : ℕ) (h₁ : Takes (limited_at 2 
           steps_then (Ok ss) h₄
           ∙ subst (λ (w : List ℕ). turns_left w t (list_of ss) k [] (rest_of f₄) ≡ and_then r (λ rs. ended w (rest_of f₅) (record { ticks = t; steps = list_of ss; turns = list_of rs }))) (h₄.whole ∙ same) (h.goes_on (list_of ss))
 
-      pub ended_then : (rs : Bounded ℕ 32) (r : Result (Unit {0}) Fault) → TakesTurns t k f₄ f₅ (Ok rs) → r ≡ ended (whole_of f₅) (rest_of f₅) (tt {0}) → squeeze_fields (whole_of f₀) (rest_of f₀) ≡ and_then r (λ u. Ok (record { ticks = t; steps = list_of ss; turns = list_of rs }))
-      ended_then rs r h e =
+      pub all_then : (rs : Bounded ℕ 32) (r : Result (Unit {0}) Fault) → TakesTurns t k f₄ f₅ (Ok rs) → r ≡ ended (whole_of f₅) (rest_of f₅) (tt {0}) → squeeze_fields (whole_of f₀) (rest_of f₀) ≡ and_then r (λ u. Ok (record { ticks = t; steps = list_of ss; turns = list_of rs }))
+      all_then rs r h e =
           turns_then (Ok rs) h
           ∙ ap (λ w. ended w (rest_of f₅) (record { ticks = t; steps = list_of ss; turns = list_of rs })) (sym (h.whole ∙ h₄.whole ∙ same))
-          ∙ ended_by (whole_of f₅) (rest_of f₅) _
+          ∙ ended_then (whole_of f₅) (rest_of f₅) _
           ∙ ap (λ q. and_then q (λ u. Ok (record { ticks = t; steps = list_of ss; turns = list_of rs }))) (sym e)

@@ -3,13 +3,13 @@ use Rattle.std.proofs.Common.{Ok, Err, sym, ap, ◌∙◌}
 use Rattle.std.proofs.lemmas.Bool.{cond-false}
 use Rattle.std.proofs.lemmas.Result.{err_from_is_err_and}
 use Rattle.numbers.specs.Field.{number_in, rest_of, whole_of}
-use Rattle.numbers.proofs.Field.{below_at}
+use Rattle.numbers.proofs.Field.{below_at, takes_whole}
 use Rattle.numbers.proofs.Grammar.{tested_true}
 use Rattle.numbers.specs.Grammar.{fault_at}
 use Rattle.refusals.specs.declared.Reader.TheVariants.{Sheet}
 use Rattle.refusals.specs.declared.Refusal.TheVariants.{OutOfOrder}
 use Rattle.squeeze.specs.Sheet.{follows, settles}
-use Rattle.squeeze.proofs.Readings.{takes_whole, begin_takes, rest_takes}
+use Rattle.squeeze.proofs.Readings.{begin_takes, rest_takes}
 use Rattle.squeeze.proofs.reading.read_step.Goals as goal
 
 pub returns-in_err-begin : goal.returns-in_err-begin

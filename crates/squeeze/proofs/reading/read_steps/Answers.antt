@@ -2,9 +2,10 @@
 use Rattle.std.proofs.Common.{◌≡◌, suc, ◌-◌, ◌++◌, [], ◌∷◌, Ok, Err, length, sym, ap, ◌∙◌, arith, length-append}
 use Rattle.std.proofs.lemmas.Result.{err_from_is_err_and}
 use Rattle.lists.specs.Held.{list_of}
+use Rattle.lists.proofs.Appended.{appended}
 use Rattle.numbers.specs.Field.{rest_of, whole_of}
 use Rattle.squeeze.specs.Sheet.{steps_left}
-use Rattle.squeeze.proofs.Readings.{step_takes, pushed}
+use Rattle.squeeze.proofs.Readings.{step_takes}
 use Rattle.squeeze.proofs.reading.read_steps.Goals as goal
 
 pub returns-in_err-step : goal.returns-in_err-step
@@ -21,7 +22,7 @@ pub loop-left-preserved : goal.loop-left-preserved
 loop-left-preserved c =
     let l = c.loop-left in
     let s = c.in_ok-step.step in
-    let more : list_of c.push.new.self ≡ list_of l.steps ++ (s ∷ []) = pushed s l.steps c.push.new.self c.push.result c.unwrap.result c.unwrap.ensures c.push.ensures in
+    let more : list_of c.push.new.self ≡ list_of l.steps ++ (s ∷ []) = appended (s ∷ []) l.steps c.push.new.self c.push.result c.unwrap.result c.unwrap.ensures c.push.ensures in
     let one : l.left ≡ suc (l.left - 1) = omega arith in
     record {
       whole = c.read_step.ensures.whole ∙ l.invariant.whole;

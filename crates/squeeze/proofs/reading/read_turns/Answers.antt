@@ -2,10 +2,11 @@
 use Rattle.std.proofs.Common.{◌≡◌, ◌+◌, ◌-◌, ◌++◌, [], ◌∷◌, Ok, Err, length, sym, ap, ◌∙◌, arith, length-append}
 use Rattle.std.proofs.lemmas.Result.{err_from_is_err_and}
 use Rattle.lists.specs.Held.{list_of}
+use Rattle.lists.proofs.Appended.{appended}
 use Rattle.numbers.specs.Field.{rest_of, whole_of}
-use Rattle.numbers.proofs.Field.{below_at}
+use Rattle.numbers.proofs.Field.{below_at, takes_whole}
 use Rattle.squeeze.specs.Sheet.{turns_left}
-use Rattle.squeeze.proofs.Readings.{takes_whole, turn_takes, pushed}
+use Rattle.squeeze.proofs.Readings.{turn_takes}
 use Rattle.squeeze.proofs.reading.read_turns.Goals as goal
 
 pub returns-in_err-below : goal.returns-in_err-below
@@ -22,7 +23,7 @@ pub loop-preserved : goal.loop-preserved
 loop-preserved c =
     let l = c.loop in
     let v = c.in_ok-below.field-0 in
-    let more : list_of c.push.new.self ≡ list_of l.turns ++ (v ∷ []) = pushed v l.turns c.push.new.self c.push.result c.unwrap.result c.unwrap.ensures c.push.ensures in
+    let more : list_of c.push.new.self ≡ list_of l.turns ++ (v ∷ []) = appended (v ∷ []) l.turns c.push.new.self c.push.result c.unwrap.result c.unwrap.ensures c.push.ensures in
     record {
       whole = takes_whole (below_at c.from.result) l.fields c.below.new.self (Ok v) c.in_ok-below.ensures.takes ∙ l.invariant.whole;
       goes_on = λ steps. l.invariant.goes_on steps ∙ turn_takes (whole_of c.args.fields.now) c.from.result c.args.ticks steps c.args.count l.counter (list_of l.turns) l.fields c.below.new.self (Ok v) c.loop-test.true c.from.ensures l.invariant.whole c.in_ok-below.ensures.takes

@@ -4,7 +4,7 @@ use Rattle.std.proofs.lemmas.Result.{err_from_is_err_and}
 use Rattle.lists.specs.Held.{list_of}
 use Rattle.numbers.specs.Field.{rest_of, whole_of}
 use Rattle.squeeze.specs.Sheet.{squeeze_fields}
-use Rattle.squeeze.proofs.Readings.{ticks_then, step_count_then, turn_count_then, steps_then, turns_then, ended_then}
+use Rattle.squeeze.proofs.Readings.{ticks_then, step_count_then, turn_count_then, steps_then, turns_then, all_then}
 use Rattle.squeeze.proofs.Sheets.{fields_only}
 use Rattle.squeeze.proofs.table.SqueezeTable.read.Goals as goal
 
@@ -36,14 +36,14 @@ returns-in_err-turns c =
 pub returns-in_err-ended : goal.returns-in_err-ended
 returns-in_err-ended c =
     let p = err_from_is_err_and c.from_residual-in_err-ended.result c.from_residual-in_err-ended.ensures.1 in
-    rw (p.1, p.2) (ended_then c.args.fields c.limited.new.self c.limited-2.new.self c.limited-3.new.self _ _ c.in_ok-ticks.ensures.takes c.in_ok-step_count.ensures.takes _ c.in_ok-turn_count.ensures.takes c.read_steps.new.fields _ c.in_ok-steps.ensures c.read_turns.new.fields _ (Err c.in_err-ended.field-0.0) c.in_ok-turns.ensures c.in_err-ended.ensures)
+    rw (p.1, p.2) (all_then c.args.fields c.limited.new.self c.limited-2.new.self c.limited-3.new.self _ _ c.in_ok-ticks.ensures.takes c.in_ok-step_count.ensures.takes _ c.in_ok-turn_count.ensures.takes c.read_steps.new.fields _ c.in_ok-steps.ensures c.read_turns.new.fields _ (Err c.in_err-ended.field-0.0) c.in_ok-turns.ensures c.in_err-ended.ensures)
 
 pub invariant_of-result : goal.invariant_of-result
 invariant_of-result c =
     let said : squeeze_fields (whole_of c.args.fields) (rest_of c.args.fields) ≡ Ok (record { ticks = c.in_ok-ticks.ticks; steps = list_of c.in_ok-steps.steps; turns = list_of c.in_ok-turns.turns }) =
-    ended_then c.args.fields c.limited.new.self c.limited-2.new.self c.limited-3.new.self _ _ c.in_ok-ticks.ensures.takes c.in_ok-step_count.ensures.takes _ c.in_ok-turn_count.ensures.takes c.read_steps.new.fields _ c.in_ok-steps.ensures c.read_turns.new.fields _ (Ok c.in_ok-ended.field-0) c.in_ok-turns.ensures c.in_ok-ended.ensures in
+    all_then c.args.fields c.limited.new.self c.limited-2.new.self c.limited-3.new.self _ _ c.in_ok-ticks.ensures.takes c.in_ok-step_count.ensures.takes _ c.in_ok-turn_count.ensures.takes c.read_steps.new.fields _ c.in_ok-steps.ensures c.read_turns.new.fields _ (Ok c.in_ok-ended.field-0) c.in_ok-turns.ensures c.in_ok-ended.ensures in
     record { keeps = (fields_only (whole_of c.args.fields) (rest_of c.args.fields) _ said).0 }
 
 pub returns : goal.returns
 returns c =
-    ended_then c.args.fields c.limited.new.self c.limited-2.new.self c.limited-3.new.self _ _ c.in_ok-ticks.ensures.takes c.in_ok-step_count.ensures.takes _ c.in_ok-turn_count.ensures.takes c.read_steps.new.fields _ c.in_ok-steps.ensures c.read_turns.new.fields _ (Ok c.in_ok-ended.field-0) c.in_ok-turns.ensures c.in_ok-ended.ensures
+    all_then c.args.fields c.limited.new.self c.limited-2.new.self c.limited-3.new.self _ _ c.in_ok-ticks.ensures.takes c.in_ok-step_count.ensures.takes _ c.in_ok-turn_count.ensures.takes c.read_steps.new.fields _ c.in_ok-steps.ensures c.read_turns.new.fields _ (Ok c.in_ok-ended.field-0) c.in_ok-turns.ensures c.in_ok-ended.ensures
