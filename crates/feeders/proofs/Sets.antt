@@ -1,10 +1,13 @@
 -- What belongs to a set that is written as a number, and when two such sets are equal.
-use Rattle.std.proofs.Common.{◌≡◌, ℕ, zero, suc, ◌+◌, ◌-◌, ◌*◌, ◌/◌, ◌%◌, ◌^◌, ◌<◌, ◌≤◌, Bool, true, false, ◌||◌, T, eqb, ltb, leb, nat_lt, ◌&&◌, rules, ◌⊎◌, ◌↔◌, List, [], ◌∷◌, ◌++◌, length, get_or, sym, refl, ap, ◌∙◌, subst, ap₂, inl, inr, lt_of_lt_of_le, mod-lt, one-mul, pow-suc, div-one, one-add, arith, eqb→eq, ltb→lt, lt→ltb, pow_mono}
-use native.Mathlib.Nat.{div-eq_of_lt, mul-mod_left}
+use Rattle.std.proofs.Common.{◌≡◌, ℕ, max, zero, suc, ◌-◌, ◌/◌, ◌^◌, ◌<◌, ◌≤◌, Bool, true, false, ◌||◌, T, eqb, ltb, leb, nat_lt, ◌&&◌, rules, ◌⊎◌, ◌↔◌, List, [], ◌∷◌, ◌++◌, length, get_or, sym, refl, ap, ◌∙◌, subst, inl, inr, lt_of_lt_of_le, pow-suc, arith, eqb→eq, ltb→lt, lt→ltb, pow_mono}
+use native.Mathlib.Nat.{div-eq_of_lt}
 use lib.Bits.{bit_or}
+use Rattle.std.specs.Int.{bit_at}
 use Rattle.std.specs.List.{list_all}
-use Rattle.std.proofs.lemmas.Nat.{pow_pos, pow-add, pow_below, shl-shr, shr-shr, or_shr, or_mod, or_lt, div-add-mod', le-div}
-use Rattle.std.proofs.lemmas.Bool.{cases_lt, cases_order, eq-eqb, ne_eqb, lt-ltb, le-ltb}
+use Rattle.std.proofs.lemmas.Nat.{pow_pos, pow_below, or_lt, le-div}
+use Rattle.std.proofs.lemmas.Nat.Bits.{bit_at-suc, bit_at-zero, bit_at_or, bit_at-pow_same, bit_at-pow_other, bit_at-lt, same_from_bits, bit_at_above}
+use Rattle.std.proofs.lemmas.Bool.Decides.{nat_tests}
+use Rattle.std.proofs.lemmas.Bool.{cases_eq, cases_lt, eq-eqb, ne_eqb, lt-ltb, le-ltb}
 use Rattle.feeders.specs.Sets.{has, with, all_below}
 
 -- ---- tests
@@ -31,47 +34,26 @@ T-or false b = (λ t. inr t, λ h. elim h [ inl x ↦ absurd x | inr y ↦ y ])
 
 -- ---- the digits of a number
 
-digit_or : (x y : ℕ) → x < 2 → y < 2 → eqb (bit_or x y) 1 ≡ (eqb x 1 || eqb y 1)
-digit_or zero y hx hy = refl
-digit_or (suc zero) zero hx hy = refl
-digit_or (suc zero) (suc zero) hx hy = refl
-digit_or (suc zero) (suc (suc y)) hx hy = let z : ⊥ = omega arith in absurd z
-digit_or (suc (suc x)) y hx hy = let z : ⊥ = omega arith in absurd z
-
-or-digit : (s t p : ℕ) → bit_or s t / 2 ^ p % 2 ≡ bit_or (s / 2 ^ p % 2) (t / 2 ^ p % 2)
-or-digit s t p = ap (λ (x : ℕ). x % 2) (or_shr s t p) ∙ or_mod (s / 2 ^ p) (t / 2 ^ p) 1
-
-digit_lt : (n : ℕ) → n % 2 < 2
-digit_lt n = mod-lt n (omega arith)
+digit_or : (x y : ℕ) → x < 2 → y < 2 → eqb (max x y) 1 ≡ (eqb x 1 || eqb y 1)
+digit_or x y hx hy = grind (arith, nat_tests)
 
 pub has-or : (s t p : ℕ) → has (bit_or s t) p ≡ (has s p || has t p)
 has-or s t p =
-    ap (λ (x : ℕ). eqb x 1) (or-digit s t p)
-    ∙ digit_or (s / 2 ^ p % 2) (t / 2 ^ p % 2) (digit_lt (s / 2 ^ p)) (digit_lt (t / 2 ^ p))
+    ap (λ (x : ℕ). eqb x 1) (bit_at_or s t p)
+    ∙ digit_or (bit_at s p) (bit_at t p) (bit_at-lt s p) (bit_at-lt t p)
 
 pub has-zero : (p : ℕ) → has 0 p ≡ false
-has-zero p = ap (λ (x : ℕ). eqb (x % 2) 1) (div-eq_of_lt (pow_pos p))
+has-zero p = ap (λ (x : ℕ). eqb x 1) (bit_at-zero p)
 
 -- past the digits of s there is nothing
 pub has_past : (s p : ℕ) → s < 2 ^ p → has s p ≡ false
-has_past s p h = ap (λ (x : ℕ). eqb (x % 2) 1) (div-eq_of_lt h)
-
-one_here : (q : ℕ) → has (2 ^ q) q ≡ true
-one_here q = ap (λ (x : ℕ). eqb (x % 2) 1) (ap (λ (x : ℕ). x / 2 ^ q) (sym (one-mul (2 ^ q))) ∙ shl-shr 1 q)
-
-one_above : (d p : ℕ) → has (2 ^ (suc d + p)) p ≡ false
-one_above d p =
-    ap (λ (x : ℕ). eqb (x % 2) 1) (ap (λ (x : ℕ). x / 2 ^ p) (pow-add 2 (suc d) p) ∙ shl-shr (2 ^ suc d) p)
-    ∙ ap (λ (x : ℕ). eqb x 1) (ap (λ (x : ℕ). x % 2) (pow-suc 2 d) ∙ mul-mod_left (2 ^ d) 2)
+has_past s p h = ap (λ (x : ℕ). eqb x 1) (bit_at_above s p p h (omega arith))
 
 pub has_one : (q p : ℕ) → has (2 ^ q) p ≡ eqb p q
 has_one q p =
-    elim (cases_order p q) [
-      | inl e ↦ subst (λ (x : ℕ). has (2 ^ q) x ≡ eqb x q) (sym e) (one_here q ∙ sym (eq-eqb q q refl))
-      | inr o ↦ elim o [
-        | inl l ↦ let e : suc (q - suc p) + p ≡ q = omega arith in ap (λ (x : ℕ). has (2 ^ x) p) (sym e) ∙ one_above (q - suc p) p ∙ sym (ne_eqb p q (λ h. omega arith))
-        | inr g ↦ has_past (2 ^ q) p (pow_below q p g) ∙ sym (ne_eqb p q (λ h. omega arith))
-      ]
+    elim (cases_eq p q) [
+      | inl e ↦ subst (λ (x : ℕ). has (2 ^ q) x ≡ eqb x q) (sym e) (ap (λ (x : ℕ). eqb x 1) (bit_at-pow_same q) ∙ sym (eq-eqb q q refl))
+      | inr n ↦ ap (λ (x : ℕ). eqb x 1) (bit_at-pow_other q p n) ∙ sym (ne_eqb p q n)
     ]
 
 pub has-with : (s q p : ℕ) → has (with s q) p ≡ (has s p || eqb p q)
@@ -100,9 +82,6 @@ has-below n s p h t =
 pub with-below : (n s q : ℕ) → s < 2 ^ n → q < n → with s q < 2 ^ n
 with-below n s q h k = or_lt n s (2 ^ q) h (pow_below q n k)
 
-pub one_below : (n q : ℕ) → q < n → 2 ^ q < 2 ^ n
-one_below n q k = pow_below q n k
-
 -- the shift by which code sees whether a set is below 2 ^ n
 pub eqb-shr-zero : (s n : ℕ) → eqb (s / 2 ^ n) 0 ≡ ltb s (2 ^ n)
 eqb-shr-zero s n =
@@ -113,38 +92,12 @@ eqb-shr-zero s n =
 
 -- ---- sets with the same members are equal
 
-has_first : (s : ℕ) → has s 0 ≡ eqb (s % 2) 1
-has_first s = ap (λ (x : ℕ). eqb (x % 2) 1) (div-one s)
-
-has_half : (s p : ℕ) → has (s / 2) p ≡ has s (suc p)
-has_half s p = ap (λ (x : ℕ). eqb (x % 2) 1) (shr-shr s 1 p ∙ ap (λ (x : ℕ). s / 2 ^ x) (one-add p))
-
 same_digit : (x y : ℕ) → x < 2 → y < 2 → eqb x 1 ≡ eqb y 1 → x ≡ y
-same_digit zero zero hx hy e = refl
-same_digit zero (suc zero) hx hy e = absurd (subst T (sym e) tt)
-same_digit zero (suc (suc y)) hx hy e = let z : ⊥ = omega arith in absurd z
-same_digit (suc zero) zero hx hy e = absurd (subst T e tt)
-same_digit (suc zero) (suc zero) hx hy e = refl
-same_digit (suc zero) (suc (suc y)) hx hy e = let z : ⊥ = omega arith in absurd z
-same_digit (suc (suc x)) y hx hy e = let z : ⊥ = omega arith in absurd z
-
-half_below : (n s : ℕ) → s < 2 ^ suc n → s / 2 < 2 ^ n
-half_below n s h = omega (arith, pow-suc 2 n, div-add-mod' s 2)
-
-pub sets_equal : (n s t : ℕ) → s < 2 ^ n → t < 2 ^ n → ((p : ℕ) → p < n → has s p ≡ has t p) → s ≡ t
-sets_equal zero s t hs ht h = omega arith
-sets_equal (suc n) s t hs ht h =
-    let halves : s / 2 ≡ t / 2 = sets_equal n (s / 2) (t / 2) (half_below n s hs) (half_below n t ht) (λ p hp. has_half s p ∙ h (suc p) (omega arith) ∙ sym (has_half t p)) in
-    let digits : s % 2 ≡ t % 2 = same_digit (s % 2) (t % 2) (digit_lt s) (digit_lt t) (sym (has_first s) ∙ h 0 (omega arith) ∙ has_first t) in
-    sym (div-add-mod' s 2) ∙ ap₂ (λ (x y : ℕ). x * 2 + y) halves digits ∙ div-add-mod' t 2
-
-pub lt_two_pow : (n : ℕ) → n < 2 ^ n
-lt_two_pow zero = omega arith
-lt_two_pow (suc n) = omega (arith, lt_two_pow n, pow-suc 2 n)
+same_digit x y hx hy e = grind (arith, nat_tests)
 
 pub sets_ext : (s t : ℕ) → ((p : ℕ) → has s p ≡ has t p) → s ≡ t
 sets_ext s t h =
-    sets_equal (s + t) s t (lt_of_lt_of_le (lt_two_pow s) (pow_mono (omega arith))) (lt_of_lt_of_le (lt_two_pow t) (pow_mono (omega arith))) (λ p _. h p)
+    same_from_bits s t (λ p. same_digit (bit_at s p) (bit_at t p) (bit_at-lt s p) (bit_at-lt t p) (h p))
 
 pub sets_ext_T : (s t : ℕ) → ((p : ℕ) → T (has s p) → T (has t p)) → ((p : ℕ) → T (has t p) → T (has s p)) → s ≡ t
 sets_ext_T s t f g = sets_ext s t (λ p. T_eq (has s p) (has t p) (f p) (g p))
@@ -155,16 +108,16 @@ below-has zero s h =
     let e : s ≡ 0 = sets_ext_T s 0 (λ p t. let z : ⊥ = omega (arith, h p t) in absurd z) (λ p t. absurd (not-has-zero p t)) in
     omega arith
 below-has (suc n) s h =
-    let k : s / 2 < 2 ^ n = below-has n (s / 2) (λ p t. omega (arith, h (suc p) (subst T (has_half s p) t))) in
-    omega (arith, pow-suc 2 n, div-add-mod' s 2, digit_lt s)
+    let k : s / 2 < 2 ^ n = below-has n (s / 2) (λ p t. omega (arith, h (suc p) (subst (λ (x : ℕ). T (eqb x 1)) (sym (bit_at-suc s p)) t))) in
+    omega (arith, pow-suc 2 n)
 
 -- ---- lists of entries below k
 
-both : (b c : Bool) → T (elim b [ true ↦ c | false ↦ false ]) → T b × T c
+pub both : (b c : Bool) → T (elim b [ true ↦ c | false ↦ false ]) → T b × T c
 both true c t = (tt, t)
 both false c t = absurd t
 
-from_both : (b c : Bool) → T b → T c → T (elim b [ true ↦ c | false ↦ false ])
+pub from_both : (b c : Bool) → T b → T c → T (elim b [ true ↦ c | false ↦ false ])
 from_both true c t u = u
 from_both false c t u = absurd t
 

@@ -3,6 +3,7 @@ use Rattle.std.proofs.Common.{◌≡◌, ℕ, zero, suc, pred, ◌+◌, ◌<◌,
 use lib.Dec.{eqb_refl}
 use Rattle.std.proofs.lemmas.Bool.{cases_eq, cases_lt}
 use Rattle.feeders.specs.Sets.{has}
+use Rattle.feeders.proofs.Sets.{both, from_both}
 use Rattle.graphs.specs.Graph.{Graph, Sound}
 use Rattle.graphs.specs.Distance.{Usable, Leads, Distance, NoDistance, First, Way, there, onward}
 use Rattle.graphs.specs.Certificate.{none, told, Passes, every_below, some_below, not_nearer, one_nearer, stays_out, passes_at, passes}
@@ -23,18 +24,10 @@ T_choice : (b x y : Bool) → (T b → T x) → ((T b → ⊥) → T y) → T (e
 T_choice true x y p q = p tt
 T_choice false x y p q = q (λ z. z)
 
-T_both : (b x : Bool) → T (elim b [ true ↦ x | false ↦ false ]) → T b × T x
-T_both true x t = (tt, t)
-T_both false x t = absurd t
-
-T_from : (b x : Bool) → T b → T x → T (elim b [ true ↦ x | false ↦ false ])
-T_from true x t u = u
-T_from false x t u = t
-
 pub every_below_each : (n : ℕ) (test : ℕ → Bool) → T (every_below n test) → (k : ℕ) → k < n → T (test k)
 every_below_each zero test t k h = let z : ⊥ = omega arith in absurd z
 every_below_each (suc n) test t k h =
-    let r = T_both (test n) (every_below n test) t in
+    let r = both (test n) (every_below n test) t in
     elim (cases_lt k n) [
       | inl l ↦ every_below_each n test r.1 k l
       | inr m ↦ let e : n ≡ k = omega arith in subst (λ (i : ℕ). T (test i)) e r.0
@@ -50,7 +43,7 @@ some_below_one (suc n) test t =
 
 pub every_below_from : (n : ℕ) (test : ℕ → Bool) → ((k : ℕ) → k < n → T (test k)) → T (every_below n test)
 every_below_from zero test p = tt
-every_below_from (suc n) test p = T_from (test n) _ (p n (omega arith)) (every_below_from n test (λ k l. p k (omega arith)))
+every_below_from (suc n) test p = from_both (test n) _ (p n (omega arith)) (every_below_from n test (λ k l. p k (omega arith)))
 
 pub some_below_from : (n : ℕ) (test : ℕ → Bool) (k : ℕ) → k < n → T (test k) → T (some_below n test)
 some_below_from zero test k l t = let z : ⊥ = omega arith in absurd z
@@ -80,8 +73,8 @@ unreached_closed g s table v t n e b u =
 reached_parts : (g : Graph) (s : ℕ) (table : List ℕ) (v : ℕ) → T (passes_at g s table v) → (T (g.goal v) → ⊥) → (told table v ≡ none → ⊥) → (told table v ≤ none) × T (some_below g.labels (one_nearer g s table v)) × T (every_below g.labels (not_nearer g s table v))
 reached_parts g s table v t n m =
     let rest = (T_arms (eqb (told table v) none) _ _ ((T_arms (g.goal v) _ _ t).1 n)).1 (λ y. m (eqb→eq (told table v) none y)) in
-    let p = T_both (leb (told table v) none) _ rest in
-    let q = T_both (some_below g.labels (one_nearer g s table v)) _ p.1 in
+    let p = both (leb (told table v) none) _ rest in
+    let q = both (some_below g.labels (one_nearer g s table v)) _ p.1 in
     (leb→le (told table v) none p.0, q.0, q.1)
 
 pub passes_sound : (g : Graph) (s : ℕ) (table : List ℕ) → T (passes g s table) → Passes g s table
@@ -93,7 +86,7 @@ passes_sound g s table t = record {
   goals = λ v l. goal-told g s table v (at v l);
   nearer = λ v l n m.
       let r = some_below_one g.labels (one_nearer g s table v) (reached_parts g s table v (at v l) n m).1 in
-      let b = T_both (has s r.0) _ r.2 in
+      let b = both (has s r.0) _ r.2 in
       (r.0, (r.1, b.0), eqb→eq (told table (g.next v r.0) + 1) (told table v) b.1);
   nearest = λ v l n m b u k.
       let here = every_below_each g.labels (not_nearer g s table v) (reached_parts g s table v (at v l) n m).2 b u.0 in
@@ -119,10 +112,10 @@ passes-complete g s table p = every_below_from g.nodes (passes_at g s table) at
         (λ e.
         let f : told table v ≡ none → ⊥ = λ q. e (T-eqb (told table v) none q) in
         let r = p.nearer v l n f in
-        T_from (leb (told table v) none) _ (le→leb (told table v) none (p.small v l))
-        (T_from (some_below g.labels (one_nearer g s table v)) _
+        from_both (leb (told table v) none) _ (le→leb (told table v) none (p.small v l))
+        (from_both (some_below g.labels (one_nearer g s table v)) _
         (some_below_from g.labels (one_nearer g s table v) r.0 r.1.0
-        (T_from (has s r.0) _ r.1.1 (T-eqb (told table (g.next v r.0) + 1) (told table v) r.2)))
+        (from_both (has s r.0) _ r.1.1 (T-eqb (told table (g.next v r.0) + 1) (told table v) r.2)))
         (every_below_from g.labels (not_nearer g s table v) (λ b k. T_choice (has s b) _ _
         (λ u. le→leb (told table v) (told table (g.next v b) + 1) (elim (cases_eq (told table (g.next v b)) none) [
           | inl q ↦ omega (arith, p.small v l)
@@ -238,11 +231,11 @@ unfolding leads_to-entry
 passes-has_first g s table v d h p l f e = found (lowest_below g.labels (leads_to-entry g s table v d))
   where
     passing : (b : ℕ) → T (has s b) → told table (g.next v b) ≡ d → T (leads_to-entry g s table v d b)
-    passing b u q = T_from (has s b) _ u (T-eqb (told table (g.next v b)) d q)
+    passing b u q = from_both (has s b) _ u (T-eqb (told table (g.next v b)) d q)
 
     found : ((a : ℕ) × (a < g.labels) × T (leads_to-entry g s table v d a) × ((b : ℕ) → T (leads_to-entry g s table v d b) → a ≤ b)) ⊎ ((b : ℕ) → b < g.labels → T (leads_to-entry g s table v d b) → ⊥) → (a : ℕ) × First g s v d a
     found (inl r) =
-        let t = T_both (has s r.0) _ r.2 in
+        let t = both (has s r.0) _ r.2 in
         (r.0, passes_first_at g s table v d r.0 h p l (omega (arith, p.small v l)) (r.1, t.0) (eqb→eq (told table (g.next v r.0)) d t.1) (λ b u q. r.3 b (passing b u.1 q)))
     found (inr m) =
         let r = p.nearer v l (λ y. omega (arith, p.goals v l y)) f in

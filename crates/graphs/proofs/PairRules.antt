@@ -1,5 +1,5 @@
 -- The pair rule orients with few actions, and where all poses can be oriented it never gets stuck.
-use Rattle.std.proofs.Common.{◌≡◌, ℕ, suc, ◌+◌, ◌-◌, ◌*◌, ◌^◌, ◌<◌, ◌≤◌, T, ◌⊎◌, List, ◌++◌, length, sym, refl, subst, ap₂, mul-le-mul_right, suc-mul, arith, length-append}
+use Rattle.std.proofs.Common.{◌≡◌, ℕ, suc, ◌+◌, ◌-◌, ◌*◌, ◌^◌, ◌<◌, ◌≤◌, T, ◌⊎◌, List, ◌++◌, length, sym, refl, subst, ap₂, lt_trans, lt_of_lt_of_le, mul-le-mul_right, suc-mul, arith, length-append}
 use Rattle.feeders.specs.Motion.{Motion, Valid, brings}
 use Rattle.feeders.specs.Sets.{has}
 use Rattle.feeders.specs.Image.{image}
@@ -24,18 +24,6 @@ tie p q d p₁ q₁ d₁ h k = (omega arith, omega arith)
 not_one_two : (k : ℕ) → k ≡ 1 → 2 ≤ k → ⊥
 not_one_two k e h = omega arith
 
-less_few : (n k : ℕ) → n < k → k ≤ 32 → n < 32
-less_few n k h l = omega arith
-
-lesser_too : (p q n : ℕ) → p < q → q < n → p < n
-lesser_too p q n h l = omega arith
-
-no_actions : (k : ℕ) → 0 ≤ k
-no_actions k = omega arith
-
-next_node : (v k : ℕ) → v < k → v < k + 1
-next_node v k h = omega arith
-
 -- what one round adds is paid by the poses that it takes away
 rounds : (a r b c d k : ℕ) → a ≡ d → d < k + 1 → r ≤ (b - 1) * k → 1 ≤ b → b < c → a + r ≤ (c - 1) * k
 rounds a r b c d k e h l f g =
@@ -52,7 +40,7 @@ module _ (m : Motion) (perm : ℕ) (ok : Valid m) where
   -- ---- a pair of a set and its way
 
   below_few : (s p : ℕ) → s < 2 ^ m.poses → T (has s p) → p < 32
-  below_few s p h t = less_few p m.poses (has-below m.poses s p h t) ok.few_poses
+  below_few s p h t = lt_of_lt_of_le (has-below m.poses s p h t) ok.few_poses
 
   nearest_two : (s p q d : ℕ) → s < 2 ^ m.poses → Nearest m perm s p q d → 2 ≤ size_of s
   nearest_two s p q d h x = size_two s p q x.ordered (below_few s q h x.greater) x.lesser x.greater
@@ -74,12 +62,12 @@ module _ (m : Motion) (perm : ℕ) (ok : Valid m) where
   way_some s p q d w h x y =
       let hq = has-below m.poses s q h x.greater in
       let here = brings_stays m ok q w hq (usable_below m perm w (way_usable p q w y)) in
-      size_some (image m s w) (brings m q w) (less_few (brings m q w) m.poses here ok.few_poses) (image_member m s w q hq x.greater)
+      size_some (image m s w) (brings m q w) (lt_of_lt_of_le here ok.few_poses) (image_member m s w q hq x.greater)
 
   away_below : (s p q d : ℕ) → s < 2 ^ m.poses → Nearest m perm s p q d → d < start m.poses + 1
   away_below s p q d h x =
       distance_below (pair_graph m) perm (pair_node p q) d (pair_sound m ok)
-      (next_node (pair_node p q) (start m.poses) (pair_inside p q m.poses x.ordered (has-below m.poses s q h x.greater))) x.away
+      (omega (arith, pair_inside p q m.poses x.ordered (has-below m.poses s q h x.greater))) x.away
 
   -- the nearest pair of a set has one way
   same_way : (s p q d p₁ q₁ d₁ : ℕ) (w w₁ : List ℕ) → Nearest m perm s p q d → Nearest m perm s p₁ q₁ d₁ → Way (pair_graph m) perm (pair_node p q) w → Way (pair_graph m) perm (pair_node p₁ q₁) w₁ → w₁ ≡ w
@@ -114,7 +102,7 @@ module _ (m : Motion) (perm : ℕ) (ok : Valid m) where
       (all_usable_append (pair_graph m) perm w rest u k.0, subst One (sym (image-append m ok s w rest (usable_below m perm w u))) k.1)
 
   plan_short : (s : ℕ) (x : List ℕ) → PairRule m perm s x → s < 2 ^ m.poses → length x ≤ (size_of s - 1) * start m.poses
-  plan_short s x (met o) h = no_actions ((size_of s - 1) * start m.poses)
+  plan_short s x (met o) h = omega arith
   plan_short s x (bring {p = p} {q = q} {d = d} {w = w} {rest = rest} n z r) h =
       subst (λ (k : ℕ). k ≤ (size_of s - 1) * start m.poses) (sym (length-append w rest))
       (rounds (length w) (length rest) (size_of (image m s w)) (size_of s) d (start m.poses) (way_length (pair_graph m) perm (pair_node p q) d w z n.away) (away_below s p q d h n)
@@ -125,7 +113,7 @@ module _ (m : Motion) (perm : ℕ) (ok : Valid m) where
   orients_meets w o p q hp hq =
       let t = usable_below m perm w o.0 in
       one_in (image m (every m) w) (brings m p w) (brings m q w) o.1
-      (less_few (brings m p w) m.poses (brings_stays m ok p w hp t) ok.few_poses) (less_few (brings m q w) m.poses (brings_stays m ok q w hq t) ok.few_poses)
+      (lt_of_lt_of_le (brings_stays m ok p w hp t) ok.few_poses) (lt_of_lt_of_le (brings_stays m ok q w hq t) ok.few_poses)
       (image_member m (every m) w p hp ((has-every m p).1 hp)) (image_member m (every m) w q hq ((has-every m q).1 hq))
 
   never_stuck : (w : List ℕ) → Orients m perm (every m) w → (s : ℕ) → Stuck m perm s → s < 2 ^ m.poses → ⊥
@@ -133,7 +121,7 @@ module _ (m : Motion) (perm : ℕ) (ok : Valid m) where
       let r = two_in s k in
       let hq = has-below m.poses s r.1 h r.5 in
       none r.0 r.1 r.2 r.4 r.5 w
-      (meets_leads m ok perm r.0 r.1 w r.2 hq o.0 (orients_meets w o r.0 r.1 (lesser_too r.0 r.1 m.poses r.2 hq) hq))
+      (meets_leads m ok perm r.0 r.1 w r.2 hq o.0 (orients_meets w o r.0 r.1 (lt_trans r.2 hq) hq))
   never_stuck w o s (after {p = p} {q = q} {w = w₁} n z t) h = never_stuck w o (image m s w₁) t (way_below s p q w₁ z)
 
   stuck_exact : (u : List ℕ) → AllUsable (pair_graph m) perm u → Stuck m perm (image m (every m) u) → (w : List ℕ) → Orients m perm (image m (every m) u) w → ⊥

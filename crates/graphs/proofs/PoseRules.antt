@@ -1,5 +1,5 @@
 -- The ways of the pose grounds bring a pose to the goal, with few actions.
-use Rattle.std.proofs.Common.{◌≡◌, ℕ, ◌-◌, ◌<◌, ◌≤◌, T, eqb, List, [], ◌∷◌, length, sym, refl, subst, arith, eqb→eq}
+use Rattle.std.proofs.Common.{◌≡◌, ℕ, T, eqb, List, [], ◌∷◌, length, sym, refl, subst, arith, eqb→eq}
 use lib.Dec.{eqb_refl}
 use Rattle.feeders.specs.Motion.{Motion, Valid, brings}
 use Rattle.graphs.specs.Graph.{walk}
@@ -35,12 +35,9 @@ pub brings_leads : (m : Motion) (perm p q : ℕ) (w : List ℕ) → AllUsable (p
 brings_leads m perm p q w u e =
     (pair_pose_usable m perm q w u, subst (λ (k : ℕ). T (eqb k q)) (sym (walk-brings m q p w)) (subst (λ (k : ℕ). T (eqb (brings m p w) k)) e (eqb_refl (brings m p w))))
 
-one_less : (k n : ℕ) → k < n → k ≤ n - 1
-one_less k n h = omega arith
-
 pub pose_laws : (m : Motion) (perm : ℕ) → Valid m → PoseLaws m perm
 pose_laws m perm ok = record {
   ends = λ from goal w h l y. leads_brings m perm from goal w (way_leads (pose_graph m goal) perm from w y);
-  short = λ from goal w h l y. one_less (length w) m.poses (distance_below (pose_graph m goal) perm from (length w) (pose_sound m goal ok) h (way_distance (pose_graph m goal) perm from w y));
+  short = λ from goal w h l y. omega (arith, distance_below (pose_graph m goal) perm from (length w) (pose_sound m goal ok) h (way_distance (pose_graph m goal) perm from w y));
   never = λ from goal w h l n u e. n w (brings_leads m perm from goal w u e);
 }

@@ -1,6 +1,8 @@
 -- How many poses a set has, and what becomes of that number under a list of actions.
-use Rattle.std.proofs.Common.{◌≡◌, ℕ, zero, suc, ◌-◌, ◌/◌, ◌%◌, ◌^◌, ◌<◌, ◌≤◌, true, false, T, eqb, ◌↔◌, List, [], ◌∷◌, sym, refl, ap, ◌∙◌, subst, inl, inr, le_trans, lt_of_lt_of_le, pow-suc, div-one, one-add, arith}
-use Rattle.std.proofs.lemmas.Nat.{pow_pos, shr-shr}
+use Rattle.std.proofs.Common.{◌≡◌, ℕ, zero, suc, ◌-◌, ◌^◌, ◌<◌, ◌≤◌, true, false, T, ◌↔◌, List, [], ◌∷◌, sym, refl, ap, ◌∙◌, subst, inl, inr, le_trans, lt_of_lt_of_le, arith}
+use Rattle.std.specs.Int.{bit_at}
+use Rattle.std.proofs.lemmas.Nat.{pow_pos}
+use Rattle.std.proofs.lemmas.Nat.Bits.{bit_at_ones}
 use Rattle.std.proofs.lemmas.Bool.{cases_Bool, cases_lt, cases_order, cond_both, cond-true, cond-false, eq-eqb}
 use Rattle.feeders.specs.Motion.{Motion, Valid, brings}
 use Rattle.feeders.specs.Sets.{has, with, all_below}
@@ -14,10 +16,10 @@ use Rattle.graphs.specs.PairRule.{members, size_of, One, every}
 -- ---- the members below n
 
 -- one number more
-members-has : (n s : ℕ) → T (has s n) → members (suc n) s ≡ suc (members n s)
+pub members-has : (n s : ℕ) → T (has s n) → members (suc n) s ≡ suc (members n s)
 members-has n s t = cond-true (has s n) (suc (members n s)) (members n s) (true_of_T (has s n) t)
 
-members_lacks : (n s : ℕ) → has s n ≡ false → members (suc n) s ≡ members n s
+pub members_lacks : (n s : ℕ) → has s n ≡ false → members (suc n) s ≡ members n s
 members_lacks n s e = cond-false (has s n) (suc (members n s)) (members n s) e
 
 members_more : (n s : ℕ) → (members n s ≤ members (suc n) s) × (members (suc n) s ≤ suc (members n s))
@@ -147,7 +149,7 @@ gathered_shrinks m s w n (suc k) p q h l t u b =
 -- ---- the size of a set
 
 -- `omega` computes a size of 32 steps to no end, so the facts about sizes are cited from lemmas on any n.
-least_one : (k : ℕ) → k ≡ 1 → 1 ≤ k
+pub least_one : (k : ℕ) → k ≡ 1 → 1 ≤ k
 least_one k e = omega arith
 
 pub size_one : (p : ℕ) → p < 32 → size_of (2 ^ p) ≡ 1
@@ -201,19 +203,8 @@ image_some m v s w h t k =
 
 -- ---- all poses
 
-has_first : (s : ℕ) → has s 0 ≡ eqb (s % 2) 1
-has_first s = ap (λ (x : ℕ). eqb (x % 2) 1) (div-one s)
-
-has_half : (s p : ℕ) → has (s / 2) p ≡ has s (suc p)
-has_half s p = ap (λ (x : ℕ). eqb (x % 2) 1) (shr-shr s 1 p ∙ ap (λ (x : ℕ). s / 2 ^ x) (one-add p))
-
 has_ones : (n p : ℕ) → p < n → has (2 ^ n - 1) p ≡ true
-has_ones zero p h = let z : ⊥ = omega arith in absurd z
-has_ones (suc n) zero h =
-    has_first (2 ^ suc n - 1) ∙ eq-eqb ((2 ^ suc n - 1) % 2) 1 (omega (arith, pow-suc 2 n, pow_pos n))
-has_ones (suc n) (suc p) h =
-    let e : (2 ^ suc n - 1) / 2 ≡ 2 ^ n - 1 = omega (arith, pow-suc 2 n, pow_pos n) in
-    sym (has_half (2 ^ suc n - 1) p) ∙ ap (λ (x : ℕ). has x p) e ∙ has_ones n p (omega arith)
+has_ones n p h = eq-eqb (bit_at (2 ^ n - 1) p) 1 (bit_at_ones n p h)
 
 pub every-below : (m : Motion) → every m < 2 ^ m.poses
 every-below m = omega (arith, pow_pos m.poses)

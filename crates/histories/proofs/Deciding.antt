@@ -1,5 +1,6 @@
 -- The rules decide: a call answers one thing and leaves one plan, so the calls determine the plan that is held.
-use Rattle.std.proofs.Common.{◌≡◌, ℕ, ◌+◌, ◌^◌, ◌<◌, ◌≤◌, T, List, [], ◌∷◌, ◌++◌, length, Some, None, Ok, Err, sym, refl, ap, ◌∙◌, subst, arith}
+use Rattle.std.proofs.Common.{◌≡◌, ℕ, ◌+◌, ◌^◌, ◌<◌, ◌≤◌, T, List, [], ◌∷◌, ◌++◌, length, Some, None, Ok, Err, sym, refl, ap, ◌∙◌, subst, not-le_of_lt, arith}
+use Rattle.std.proofs.lemmas.Option.{none-some, same_Some}
 use Rattle.refusals.specs.declared.Refusal.{Refusal}
 use Rattle.feeders.specs.Motion.{Motion, Valid}
 use Rattle.feeders.specs.Sets.{has}
@@ -15,14 +16,10 @@ use Rattle.histories.specs.Rules.{Plans, Answer, without, Bad, absent, forbidden
 use Rattle.histories.specs.Promise.{Determined}
 use Rattle.histories.specs.declared.call.Call.{Call}
 use Rattle.histories.proofs.Words.{permits_known, permits-free, possible-below}
-use Rattle.histories.proofs.Orienting.{none_some, same_some}
 
 -- ---- what cannot be both
 
 -- stated apart from the rules, so that `omega` sees numbers only
-le_lt : {a b : ℕ} → a ≤ b → b < a → ⊥
-le_lt h l = omega arith
-
 le_lt_same : {a b n : ℕ} → a ≤ n → n < b → a ≡ b → ⊥
 le_lt_same h l e = omega arith
 
@@ -37,7 +34,7 @@ bit_one d e p = (T-has_one e d).0 (subst (λ (x : ℕ). T (has x d)) p ((T-has_o
 
 module _ (m : Motion) (h : List Call) where
   not_absent : (a : ℕ) → m.actions ≤ a → T (permits m h a) → ⊥
-  not_absent a g t = le_lt g (permits_known m h a t)
+  not_absent a g t = not-le_of_lt (permits_known m h a t) g
 
   bad_permitted : {w : List ℕ} {e : Refusal} → Bad m h w e → Permitted m h w → ⊥
   bad_permitted (absent {a} g) p = not_absent a g p.0
@@ -46,9 +43,9 @@ module _ (m : Motion) (h : List Call) where
 
   bad_one : {w : List ℕ} {e f : Refusal} → Bad m h w e → Bad m h w f → e ≡ f
   bad_one (absent g) (absent k) = refl
-  bad_one (absent g) (forbidden l b) = absurd (le_lt g l)
+  bad_one (absent g) (forbidden l b) = absurd (not-le_of_lt l g)
   bad_one (absent {a} g) (later t x) = absurd (not_absent a g t)
-  bad_one (forbidden l b) (absent g) = absurd (le_lt g l)
+  bad_one (forbidden l b) (absent g) = absurd (not-le_of_lt l g)
   bad_one (forbidden l b) (forbidden k c) = refl
   bad_one (forbidden {a} l b) (later t x) = absurd (permits-free m h a t b)
   bad_one (later {a} t x) (absent g) = absurd (not_absent a g t)
@@ -58,10 +55,10 @@ module _ (m : Motion) (h : List Call) where
 module _ (m : Motion) (h : List Call) (before : Plans) where
   -- one plan is held at most
   both : (z : before ≡ None) (w : List ℕ) → before ≡ Some w → ⊥
-  both z w s = none_some w (sym z ∙ s)
+  both z w s = none-some w (sym z ∙ s)
 
   held_same : (v w : List ℕ) → before ≡ Some v → before ≡ Some w → v ≡ w
-  held_same v w s t = same_some v w (sym s ∙ t)
+  held_same v w s t = same_Some v w (sym s ∙ t)
 
   -- it ends in one pose
   end_same : (d e : ℕ) (v w : List ℕ) → before ≡ Some v → before ≡ Some w → image m (possible m h) v ≡ 2 ^ d → image m (possible m h) w ≡ 2 ^ e → d ≡ e
@@ -80,18 +77,18 @@ module _ (m : Motion) (h : List Call) (before : Plans) where
 module _ (m : Motion) (ok : Valid m) (h : List Call) (before : Plans) where
   pub rule_one : {c : Call} {x y : Plans} {r s : Answer} → Rule m h before c x r → Rule m h before c y s → (x ≡ y) × (r ≡ s)
   rule_one (bar_no_action g) (bar_no_action k) = (refl, refl)
-  rule_one (bar_no_action g) (bar_done l) = absurd (le_lt g l)
-  rule_one (bar_done l) (bar_no_action g) = absurd (le_lt g l)
+  rule_one (bar_no_action g) (bar_done l) = absurd (not-le_of_lt l g)
+  rule_one (bar_done l) (bar_no_action g) = absurd (not-le_of_lt l g)
   rule_one (bar_done l) (bar_done k) = (refl, refl)
   rule_one (allow_no_action g) (allow_no_action k) = (refl, refl)
-  rule_one (allow_no_action g) (allow_done l) = absurd (le_lt g l)
-  rule_one (allow_done l) (allow_no_action g) = absurd (le_lt g l)
+  rule_one (allow_no_action g) (allow_done l) = absurd (not-le_of_lt l g)
+  rule_one (allow_done l) (allow_no_action g) = absurd (not-le_of_lt l g)
   rule_one (allow_done l) (allow_done k) = (refl, refl)
   rule_one shake_done shake_done = (refl, refl)
   rule_one (step_no_action g) (step_no_action k) = (refl, refl)
-  rule_one (step_no_action g) (step_barred l b) = absurd (le_lt g l)
+  rule_one (step_no_action g) (step_barred l b) = absurd (not-le_of_lt l g)
   rule_one (step_no_action {a} g) (step_done t) = absurd (not_absent m h a g t)
-  rule_one (step_barred l b) (step_no_action g) = absurd (le_lt g l)
+  rule_one (step_barred l b) (step_no_action g) = absurd (not-le_of_lt l g)
   rule_one (step_barred l b) (step_barred k d) = (refl, refl)
   rule_one (step_barred {a} l b) (step_done t) = absurd (permits-free m h a t b)
   rule_one (step_done {a} t) (step_no_action g) = absurd (not_absent m h a g t)
@@ -102,18 +99,18 @@ module _ (m : Motion) (ok : Valid m) (h : List Call) (before : Plans) where
   rule_one (plan_done {w} p) (plan_stuck s) = absurd ((pair_laws m (permitted m h) ok).not_both (possible m h) w (possible-below m ok h) p s)
   rule_one (plan_done {w} p) (plan_done {w = v} q) = let e = (pair_laws m (permitted m h) ok).one_plan (possible m h) w v (possible-below m ok h) p q in (ap Some e, ap (λ u. Ok (Some (length u))) e)
   rule_one (put_too_long k) (put_too_long l) = (refl, refl)
-  rule_one (put_too_long k) (put_bad l y) = absurd (le_lt l k)
-  rule_one (put_too_long k) (put_apart l q o) = absurd (le_lt l k)
-  rule_one (put_too_long k) (put_done l u) = absurd (le_lt l k)
-  rule_one (put_bad k x) (put_too_long l) = absurd (le_lt k l)
+  rule_one (put_too_long k) (put_bad l y) = absurd (not-le_of_lt k l)
+  rule_one (put_too_long k) (put_apart l q o) = absurd (not-le_of_lt k l)
+  rule_one (put_too_long k) (put_done l u) = absurd (not-le_of_lt k l)
+  rule_one (put_bad k x) (put_too_long l) = absurd (not-le_of_lt l k)
   rule_one (put_bad k x) (put_bad l y) = (refl, ap Err (bad_one m h x y))
   rule_one (put_bad k x) (put_apart l q o) = absurd (bad_permitted m h x q)
   rule_one (put_bad k x) (put_done l u) = absurd (bad_permitted m h x u.0)
-  rule_one (put_apart k p n) (put_too_long l) = absurd (le_lt k l)
+  rule_one (put_apart k p n) (put_too_long l) = absurd (not-le_of_lt l k)
   rule_one (put_apart k p n) (put_bad l y) = absurd (bad_permitted m h y p)
   rule_one (put_apart k p n) (put_apart l q o) = (refl, refl)
   rule_one (put_apart k p n) (put_done l u) = absurd (n u.1)
-  rule_one (put_done k o) (put_too_long l) = absurd (le_lt k l)
+  rule_one (put_done k o) (put_too_long l) = absurd (not-le_of_lt l k)
   rule_one (put_done k o) (put_bad l y) = absurd (bad_permitted m h y o.0)
   rule_one (put_done k o) (put_apart l q n) = absurd (n o.1)
   rule_one (put_done k o) (put_done l u) = (refl, refl)
@@ -124,11 +121,11 @@ module _ (m : Motion) (ok : Valid m) (h : List Call) (before : Plans) where
   rule_one (add_no_plan z) (add_done {w = v} t q k) = absurd (both m h before z v t)
   rule_one (add_no_action {a} {w} s g) (add_no_plan y) = absurd (both m h before y w s)
   rule_one (add_no_action {a} {w} s g) (add_no_action {w = v} t k) = (refl, refl)
-  rule_one (add_no_action {a} {w} s g) (add_barred {w = v} t k d) = absurd (le_lt g k)
+  rule_one (add_no_action {a} {w} s g) (add_barred {w = v} t k d) = absurd (not-le_of_lt k g)
   rule_one (add_no_action {a} {w} s g) (add_too_long {w = v} t q k) = absurd (not_absent m h a g q)
   rule_one (add_no_action {a} {w} s g) (add_done {w = v} t q k) = absurd (not_absent m h a g q)
   rule_one (add_barred {a} {w} s l b) (add_no_plan y) = absurd (both m h before y w s)
-  rule_one (add_barred {a} {w} s l b) (add_no_action {w = v} t k) = absurd (le_lt k l)
+  rule_one (add_barred {a} {w} s l b) (add_no_action {w = v} t k) = absurd (not-le_of_lt l k)
   rule_one (add_barred {a} {w} s l b) (add_barred {w = v} t k d) = (refl, refl)
   rule_one (add_barred {a} {w} s l b) (add_too_long {w = v} t q k) = absurd (permits-free m h a q b)
   rule_one (add_barred {a} {w} s l b) (add_done {w = v} t q k) = absurd (permits-free m h a q b)
@@ -165,21 +162,21 @@ module _ (m : Motion) (ok : Valid m) (h : List Call) (before : Plans) where
   rule_one (aim_no_plan z) (aim_done e {w = v} {u = x} t k j r g) = absurd (both m h before z v t)
   rule_one (aim_no_pose {q} {w} s o) (aim_no_plan y) = absurd (both m h before y w s)
   rule_one (aim_no_pose {q} {w} s o) (aim_no_pose {w = v} t y) = (refl, refl)
-  rule_one (aim_no_pose {q} {w} s o) (aim_never e {w = v} t k j g) = absurd (le_lt o k)
-  rule_one (aim_no_pose {q} {w} s o) (aim_too_long e {w = v} {u = x} t k j r g) = absurd (le_lt o k)
-  rule_one (aim_no_pose {q} {w} s o) (aim_done e {w = v} {u = x} t k j r g) = absurd (le_lt o k)
+  rule_one (aim_no_pose {q} {w} s o) (aim_never e {w = v} t k j g) = absurd (not-le_of_lt k o)
+  rule_one (aim_no_pose {q} {w} s o) (aim_too_long e {w = v} {u = x} t k j r g) = absurd (not-le_of_lt k o)
+  rule_one (aim_no_pose {q} {w} s o) (aim_done e {w = v} {u = x} t k j r g) = absurd (not-le_of_lt k o)
   rule_one (aim_never {q} d {w} s l i f) (aim_no_plan y) = absurd (both m h before y w s)
-  rule_one (aim_never {q} d {w} s l i f) (aim_no_pose {w = v} t y) = absurd (le_lt y l)
+  rule_one (aim_never {q} d {w} s l i f) (aim_no_pose {w = v} t y) = absurd (not-le_of_lt l y)
   rule_one (aim_never {q} d {w} s l i f) (aim_never e {w = v} t k j g) = (refl, refl)
   rule_one (aim_never {q} d {w} s l i f) (aim_too_long e {w = v} {u = x} t k j r g) = absurd (no_way m h before q d e x (end_same m h before d e w v s t i j) f r)
   rule_one (aim_never {q} d {w} s l i f) (aim_done e {w = v} {u = x} t k j r g) = absurd (no_way m h before q d e x (end_same m h before d e w v s t i j) f r)
   rule_one (aim_too_long {q} d {w} {u} s l i p f) (aim_no_plan y) = absurd (both m h before y w s)
-  rule_one (aim_too_long {q} d {w} {u} s l i p f) (aim_no_pose {w = v} t y) = absurd (le_lt y l)
+  rule_one (aim_too_long {q} d {w} {u} s l i p f) (aim_no_pose {w = v} t y) = absurd (not-le_of_lt l y)
   rule_one (aim_too_long {q} d {w} {u} s l i p f) (aim_never e {w = v} t k j g) = absurd (no_way m h before q e d u (sym (end_same m h before d e w v s t i j)) g p)
   rule_one (aim_too_long {q} d {w} {u} s l i p f) (aim_too_long e {w = v} {u = x} t k j r g) = (refl, refl)
   rule_one (aim_too_long {q} d {w} {u} s l i p f) (aim_done e {w = v} {u = x} t k j r g) = let a = held_same m h before w v s t in let b = same_way m h before q d e u x (end_same m h before d e w v s t i j) p r in absurd (sum_le_lt f g (ap length a) (ap length b))
   rule_one (aim_done {q} d {w} {u} s l i p f) (aim_no_plan y) = absurd (both m h before y w s)
-  rule_one (aim_done {q} d {w} {u} s l i p f) (aim_no_pose {w = v} t y) = absurd (le_lt y l)
+  rule_one (aim_done {q} d {w} {u} s l i p f) (aim_no_pose {w = v} t y) = absurd (not-le_of_lt l y)
   rule_one (aim_done {q} d {w} {u} s l i p f) (aim_never e {w = v} t k j g) = absurd (no_way m h before q e d u (sym (end_same m h before d e w v s t i j)) g p)
   rule_one (aim_done {q} d {w} {u} s l i p f) (aim_too_long e {w = v} {u = x} t k j r g) = let a = held_same m h before w v s t in let b = same_way m h before q d e u x (end_same m h before d e w v s t i j) p r in absurd (sum_le_lt g f (sym (ap length a)) (sym (ap length b)))
   rule_one (aim_done {q} d {w} {u} s l i p f) (aim_done e {w = v} {u = x} t k j r g) = let a = held_same m h before w v s t in let b = same_way m h before q d e u x (end_same m h before d e w v s t i j) p r in let j : w ++ u ≡ v ++ x = cc in (ap Some j, ap (λ y. Ok (Some (length y))) j)

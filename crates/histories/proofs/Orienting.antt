@@ -2,6 +2,7 @@
 use Rattle.std.proofs.Common.{◌≡◌, ℕ, ◌+◌, ◌-◌, ◌*◌, ◌/◌, ◌^◌, ◌<◌, ◌≤◌, T, eqb, List, [], ◌∷◌, ◌++◌, length, take, drop, Some, None, sym, refl, ap, ◌∙◌, subst, inl, inr, lt_of_lt_of_le, mul_assoc, mul_comm, arith, eqb→eq, pow_mono}
 use Rattle.std.proofs.lemmas.Bool.{cases_Bool, cond-true, cond-false}
 use Rattle.std.proofs.lemmas.List.{take-append-drop}
+use Rattle.std.proofs.lemmas.Option.{none-some, same_Some}
 use Rattle.feeders.specs.Motion.{Motion, Valid, brings}
 use Rattle.feeders.specs.Sets.{has, all_below}
 use Rattle.feeders.specs.Image.{image}
@@ -14,7 +15,7 @@ use Rattle.graphs.specs.Poses.{pose_graph}
 use Rattle.graphs.proofs.Numbering.{start_double}
 use Rattle.graphs.proofs.PairRules.{pair_laws}
 use Rattle.graphs.proofs.PoseRules.{pose_laws}
-use Rattle.graphs.proofs.Sizes.{has-every, image-size, image_some, one_bit, size_one, image_member}
+use Rattle.graphs.proofs.Sizes.{has-every, image-size, image_some, one_bit, size_one, image_member, least_one}
 use Rattle.histories.specs.History.{permits, steps, possible, permitted, Permitted, Orients, EndsAt}
 use Rattle.histories.specs.Rules.{Plans, advanced, without}
 use Rattle.histories.specs.declared.call.Call.{Call}
@@ -23,20 +24,14 @@ use Rattle.histories.proofs.Words.{usable_permitted, permitted_usable, permitted
 
 -- ---- plans
 
-pub none_some : (w : List ℕ) → None ≡ Some w → ⊥
-none_some w e = let z : ◌≡◌ {A = ℕ} 0 1 = cc in omega arith
-
-pub same_some : (v w : List ℕ) → Some v ≡ Some w → v ≡ w
-same_some v w e = cc
-
 -- a plan that a step leaves was the same with the action before it
 pub advanced_was : (before : Plans) (a : ℕ) (w : List ℕ) → advanced before a ≡ Some w → before ≡ Some (a ∷ w)
-advanced_was None a w e = absurd (none_some w e)
-advanced_was (Some []) a w e = absurd (none_some w e)
+advanced_was None a w e = absurd (none-some w e)
+advanced_was (Some []) a w e = absurd (none-some w e)
 advanced_was (Some (b ∷ v)) a w e =
     elim (cases_Bool (eqb b a)) [
-      | inl t ↦ let x : Some v ≡ Some w = sym (cond-true (eqb b a) (Some v) None t) ∙ e in let y = same_some v w x in let z : b ≡ a = eqb→eq b a (T_of_true (eqb b a) t) in cc
-      | inr t ↦ absurd (none_some w (sym (cond-false (eqb b a) (Some v) None t) ∙ e))
+      | inl t ↦ let x : Some v ≡ Some w = sym (cond-true (eqb b a) (Some v) None t) ∙ e in let y = same_Some v w x in let z : b ≡ a = eqb→eq b a (T_of_true (eqb b a) t) in cc
+      | inr t ↦ absurd (none-some w (sym (cond-false (eqb b a) (Some v) None t) ∙ e))
     ]
 
 -- ---- images of one pose
@@ -44,16 +39,13 @@ advanced_was (Some (b ∷ v)) a w e =
 one_between : (k : ℕ) → 1 ≤ k → k ≤ 1 → k ≡ 1
 one_between k h l = omega arith
 
-one_least : (k : ℕ) → k ≡ 1 → 1 ≤ k
-one_least k e = omega arith
-
 one_most : (j k : ℕ) → j ≤ k → k ≡ 1 → j ≤ 1
 one_most j k l e = omega arith
 
 module _ (m : Motion) (ok : Valid m) where
   pub image_one : (s : ℕ) (w : List ℕ) → s < 2 ^ m.poses → T (all_below m.actions w) → One s → One (image m s w)
   image_one s w l t o =
-      one_between (size_of (image m s w)) (image_some m ok s w l t (one_least (size_of s) o)) (one_most (size_of (image m s w)) (size_of s) (image-size m ok s w) o)
+      one_between (size_of (image m s w)) (image_some m ok s w l t (least_one (size_of s) o)) (one_most (size_of (image m s w)) (size_of s) (image-size m ok s w) o)
 
   pub image_bit : (e : ℕ) (w : List ℕ) → e < m.poses → image m (2 ^ e) w ≡ 2 ^ brings m e w
   image_bit e w l =

@@ -1,5 +1,6 @@
 -- The guarantee, from the rules alone.
 use Rattle.std.proofs.Common.{◌≡◌, ℕ, ◌+◌, ◌-◌, ◌*◌, ◌/◌, ◌<◌, ◌≤◌, true, false, T, ◌↔◌, List, [], ◌∷◌, ◌++◌, length, Some, None, Ok, Err, Option, sym, refl, ap, ◌∙◌, subst, arith, length-append}
+use Rattle.std.proofs.lemmas.Option.{none-some, same_Some}
 use Rattle.refusals.specs.declared.Refusal.{Refusal}
 use Rattle.refusals.specs.declared.Refusal.TheVariants.{NoPose, NoPlan, PlanTooLong, CannotOrient, CannotEndThere}
 use Rattle.feeders.specs.Motion.{Motion, Valid}
@@ -11,7 +12,7 @@ use Rattle.histories.specs.Promise.{RulesAreSure}
 use Rattle.histories.specs.declared.call.Call.{Call}
 use Rattle.histories.specs.declared.call.Call.TheVariants.{Bar, Allow, Step, Plan, Put, Add, Cut, Aim}
 use Rattle.histories.proofs.Words.{permits_known, permits-free, permitted_all_like, permitted_same, elsewhere, possible_still, possible_elsewhere}
-use Rattle.histories.proofs.Orienting.{none_some, same_some, advanced_was, one_of_bit, orients_more, orients_step, permitted-without, planned_orients, stuck_orients_none, planned_short, way_ends, way_short, never_ends}
+use Rattle.histories.proofs.Orienting.{advanced_was, one_of_bit, orients_more, orients_step, permitted-without, planned_orients, stuck_orients_none, planned_short, way_ends, way_short, never_ends}
 
 -- ---- answers
 
@@ -58,39 +59,39 @@ module _ (m : Motion) (ok : Valid m) (h : List Call) where
 module _ (m : Motion) (ok : Valid m) where
   pub rule_orients : {h : List Call} {before after : Plans} {c : Call} {r : Answer} → ((w : List ℕ) → before ≡ Some w → Orients m h w) → Rule m h before c after r → (w : List ℕ) → after ≡ Some w → Orients m (c ∷ h) w
   rule_orients {h} ih (bar_no_action {a} g) w e = orients_still m ok h (Bar a) w (λ b l. sym (elsewhere m h a true g b l)) (still_bar m ok h a g).1 (ih w e)
-  rule_orients ih (bar_done l) w e = absurd (none_some w e)
+  rule_orients ih (bar_done l) w e = absurd (none-some w e)
   rule_orients {h} ih (allow_no_action {a} g) w e = orients_still m ok h (Allow a) w (λ b l. sym (elsewhere m h a false g b l)) (still_allow m ok h a g).1 (ih w e)
-  rule_orients ih (allow_done l) w e = absurd (none_some w e)
-  rule_orients ih shake_done w e = absurd (none_some w e)
+  rule_orients ih (allow_done l) w e = absurd (none-some w e)
+  rule_orients ih shake_done w e = absurd (none-some w e)
   rule_orients {h} ih (step_no_action {a} g) w e = orients_still m ok h (Step a) w (λ b l. refl) (still_step m ok h a (absent_not m ok h a g)).1 (ih w e)
   rule_orients {h} ih (step_barred {a} l b) w e = orients_still m ok h (Step a) w (λ b l. refl) (still_step m ok h a (barred-not m ok h a b)).1 (ih w e)
   rule_orients {h} {before} ih (step_done {a} t) w e = orients_step m ok h a w t (ih (a ∷ w) (advanced_was before a w e))
   rule_orients {h} ih (plan_stuck s) w e = orients_still m ok h Plan w (λ b l. refl) refl (ih w e)
-  rule_orients {h} ih (plan_done {w = v} r) w e = orients_still m ok h Plan w (λ b l. refl) refl (subst (Orients m h) (same_some v w e) (planned_orients m ok h v r))
+  rule_orients {h} ih (plan_done {w = v} r) w e = orients_still m ok h Plan w (λ b l. refl) refl (subst (Orients m h) (same_Some v w e) (planned_orients m ok h v r))
   rule_orients {h} ih (put_too_long {b} l) w e = orients_still m ok h (Put b) w (λ b l. refl) refl (ih w e)
   rule_orients {h} ih (put_bad {b} l x) w e = orients_still m ok h (Put b) w (λ b l. refl) refl (ih w e)
   rule_orients {h} ih (put_apart {b} l p n) w e = orients_still m ok h (Put b) w (λ b l. refl) refl (ih w e)
-  rule_orients {h} ih (put_done {b} l o) w e = orients_still m ok h (Put b) w (λ b l. refl) refl (subst (Orients m h) (same_some b.now w e) o)
+  rule_orients {h} ih (put_done {b} l o) w e = orients_still m ok h (Put b) w (λ b l. refl) refl (subst (Orients m h) (same_Some b.now w e) o)
   rule_orients {h} ih (add_no_plan {a} n) w e = orients_still m ok h (Add a) w (λ b l. refl) refl (ih w e)
   rule_orients {h} ih (add_no_action {a} s g) w e = orients_still m ok h (Add a) w (λ b l. refl) refl (ih w e)
   rule_orients {h} ih (add_barred {a} s l b) w e = orients_still m ok h (Add a) w (λ b l. refl) refl (ih w e)
   rule_orients {h} ih (add_too_long {a} s t l) w e = orients_still m ok h (Add a) w (λ b l. refl) refl (ih w e)
   rule_orients {h} ih (add_done {a} {w = v} s t l) w e =
-      orients_still m ok h (Add a) w (λ b l. refl) refl (subst (Orients m h) (same_some (v ++ (a ∷ [])) w e) (orients_more m ok h v (a ∷ []) (ih v s) (t, tt)))
+      orients_still m ok h (Add a) w (λ b l. refl) refl (subst (Orients m h) (same_Some (v ++ (a ∷ [])) w e) (orients_more m ok h v (a ∷ []) (ih v s) (t, tt)))
   rule_orients {h} ih (cut_no_plan {n} z) w e = orients_still m ok h (Cut n) w (λ b l. refl) refl (ih w e)
   rule_orients {h} ih (cut_no_place {n} s l) w e = orients_still m ok h (Cut n) w (λ b l. refl) refl (ih w e)
   rule_orients {h} ih (cut_apart {n} s l x) w e = orients_still m ok h (Cut n) w (λ b l. refl) refl (ih w e)
   rule_orients {h} ih (cut_done {n} {w = v} s l o) w e =
-      orients_still m ok h (Cut n) w (λ b l. refl) refl (subst (Orients m h) (same_some (without v n) w e) (permitted-without m ok h v n l (ih v s).0, o))
+      orients_still m ok h (Cut n) w (λ b l. refl) refl (subst (Orients m h) (same_Some (without v n) w e) (permitted-without m ok h v n l (ih v s).0, o))
   rule_orients {h} ih (aim_no_plan {q} z) w e = orients_still m ok h (Aim q) w (λ b l. refl) refl (ih w e)
   rule_orients {h} ih (aim_no_pose {q} s g) w e = orients_still m ok h (Aim q) w (λ b l. refl) refl (ih w e)
   rule_orients {h} ih (aim_never {q} x s l i n) w e = orients_still m ok h (Aim q) w (λ b l. refl) refl (ih w e)
   rule_orients {h} ih (aim_too_long {q} x s l i y z) w e = orients_still m ok h (Aim q) w (λ b l. refl) refl (ih w e)
   rule_orients {h} ih (aim_done {q} x {w = v} {u} s l i y z) w e =
-      orients_still m ok h (Aim q) w (λ b l. refl) refl (subst (Orients m h) (same_some (v ++ u) w e) (ends_orients m ok h q (v ++ u) l (way_ends m ok h q x v l (ih v s) i u y)))
+      orients_still m ok h (Aim q) w (λ b l. refl) refl (subst (Orients m h) (same_Some (v ++ u) w e) (ends_orients m ok h q (v ++ u) l (way_ends m ok h q x v l (ih v s) i u y)))
 
   pub held_orients : {h : List Call} {plan : Plans} → Held m h plan → (w : List ℕ) → plan ≡ Some w → Orients m h w
-  held_orients start w e = absurd (none_some w e)
+  held_orients start w e = absurd (none-some w e)
   held_orients (call held rule) w e = rule_orients (held_orients held) rule w e
 
 -- ---- the other parts, each from the rows of its call
@@ -107,7 +108,7 @@ module _ (m : Motion) (ok : Valid m) (h : List Call) (before : Plans) where
 
   module _ (orients : (w : List ℕ) → before ≡ Some w → Orients m h w) (q : ℕ) where
     aim_ended : {after : Plans} {r : Answer} → Rule m h before (Aim q) after r → (held : List ℕ) → q < m.poses → before ≡ Some held → (r ≡ Err CannotEndThere) ↔ ((w : List ℕ) → EndsAt m h q w → ⊥)
-    aim_ended (aim_no_plan z) held l b = absurd (none_some held (sym z ∙ b))
+    aim_ended (aim_no_plan z) held l b = absurd (none-some held (sym z ∙ b))
     aim_ended (aim_no_pose s g) held l b = let z : ⊥ = omega arith in absurd z
     aim_ended (aim_never e {w = v} s l i n) held k b = (λ _. never_ends m ok h q e v l (orients v s) i n, λ _. refl)
     aim_ended (aim_too_long e {w = v} {u} s l i y z) held k b = (
@@ -128,7 +129,7 @@ module _ (m : Motion) (ok : Valid m) (h : List Call) (before : Plans) where
     aim_few (aim_never x s k i n) l held b e = absurd (ok_err (Some l) CannotEndThere (sym e))
     aim_few (aim_too_long x s k i y z) l held b e = absurd (ok_err (Some l) PlanTooLong (sym e))
     aim_few (aim_done x {w = v} {u} s k i y z) l held b e =
-        let same : length v ≡ length held = ap length (same_some v held (sym s ∙ b)) in
+        let same : length v ≡ length held = ap length (same_Some v held (sym s ∙ b)) in
         let long : length (v ++ u) ≡ l = same_length (length (v ++ u)) l e in
         omega (arith, length-append v u, way_short m ok h q x v k (orients v s) i u y)
 
@@ -137,7 +138,7 @@ module _ (m : Motion) (ok : Valid m) (h : List Call) (before : Plans) where
     aim_ends (aim_no_pose s g) l w e a = absurd (ok_err l NoPose (sym e))
     aim_ends (aim_never x s k i n) l w e a = absurd (ok_err l CannotEndThere (sym e))
     aim_ends (aim_too_long x s k i y z) l w e a = absurd (ok_err l PlanTooLong (sym e))
-    aim_ends (aim_done x {w = v} {u} s k i y z) l w e a = subst (EndsAt m h q) (same_some (v ++ u) w a) (way_ends m ok h q x v k (orients v s) i u y)
+    aim_ends (aim_done x {w = v} {u} s k i y z) l w e a = subst (EndsAt m h q) (same_Some (v ++ u) w a) (way_ends m ok h q x v k (orients v s) i u y)
 
 -- ---- answers of accepted calls, and what refused ones leave
 

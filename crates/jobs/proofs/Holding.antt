@@ -1,5 +1,5 @@
 -- The same for the calls that make, take and change the plan.
-use Rattle.std.proofs.Common.{◌≡◌, ℕ, ◌+◌, ◌^◌, ◌<◌, ◌≤◌, T, ◌⊎◌, List, [], ◌∷◌, ◌++◌, length, Some, None, Ok, Err, Option, Result, sym, refl, ap, ◌∙◌, subst, inl, inr, arith, length-append, Bor}
+use Rattle.std.proofs.Common.{◌≡◌, ℕ, ◌+◌, ◌^◌, ◌<◌, ◌≤◌, T, ◌⊎◌, List, [], ◌∷◌, ◌++◌, length, Some, None, Ok, Err, Option, Result, sym, refl, ap, ◌∙◌, subst, inl, inr, not-le_of_lt, arith, length-append, Bor}
 use Rattle.std.specs.Option.{option_map}
 use Rattle.std.specs.Result.{result_unwrap_or}
 use Rattle.std.proofs.lemmas.Bool.{cases_lt}
@@ -74,9 +74,6 @@ pub held_short : (p : Option store_plan.Plan) (w : List ℕ) → option_map list
 held_short None w e = absurd (cc)
 held_short (Some p) w e = let same : w ≡ list_of p = cc in rw same (length-list_of_le p)
 
-too_far : {a b : ℕ} → a < b → b ≤ a → ⊥
-too_far l g = omega arith
-
 -- the possible poses are not none
 some_not-none : (k : ℕ) → 1 ≤ k → k ≡ 0 → ⊥
 some_not-none k l e = omega arith
@@ -94,7 +91,7 @@ module _ {F : Type 0} (m : Motion) (ok : Valid m) where
   -- ---- plan
 
   pub plan_refused : (j : Job F) (e : Refusal) → Refused m j.allowed j.poses e → Performs m j Plan j (Err e)
-  plan_refused j e (inl r) = refused m ok j Plan e (λ h before R. absurd (too_far (poses_below m ok j h before R) r.0))
+  plan_refused j e (inl r) = refused m ok j Plan e (λ h before R. absurd (not-le_of_lt (poses_below m ok j h before R) r.0))
   plan_refused j e (inr r) =
       rw r.1 (refused m ok j Plan CannotOrient (λ h before R. elim r.2 [
         | inl stuck ↦ plan_stuck (rw (R.allowed_as, R.poses_as) at stuck)
@@ -219,7 +216,7 @@ module _ {F : Type 0} (m : Motion) (ok : Valid m) where
           refused m ok j (Aim q) NoPose (λ h before R. aim_no_pose (was h before R).0 g)
       aim_refused q (no_pose (inr g)) =
           refused m ok j (Aim q) NoPose (λ h before R. elim (cases_lt q m.poses) [
-            | inl l ↦ absurd (too_far (end_there q l h before R) g)
+            | inl l ↦ absurd (not-le_of_lt (end_there q l h before R) g)
             | inr k ↦ aim_no_pose (was h before R).0 k
           ])
       aim_refused q (never l k none) =

@@ -1,5 +1,5 @@
 -- How the planner's answers meet what is promised of them.
-use Rattle.std.proofs.Common.{◌≡◌, ℕ, ◌^◌, ◌<◌, ◌≤◌, List, Ok, Err, Result, sym, refl, subst, arith}
+use Rattle.std.proofs.Common.{◌≡◌, ℕ, ◌^◌, ◌<◌, ◌≤◌, List, Ok, Err, Result, sym, refl, subst, not-le_of_lt, arith}
 use Rattle.refusals.specs.declared.Refusal.{Refusal}
 use Rattle.refusals.specs.declared.Refusal.TheVariants.{NoPose, CannotOrient}
 use Rattle.feeders.specs.Motion.{Motion, Valid}
@@ -17,9 +17,6 @@ not_refused x r e f = let z : ◌≡◌ {A = ℕ} 0 1 = cc in omega arith
 not_one : (a b : ℕ) → a ≤ b → b ≡ 0 → a ≡ 1 → ⊥
 not_one a b h e f = omega arith
 
-not_both : (a b : ℕ) → a ≤ b → b < a → ⊥
-not_both a b h l = omega arith
-
 module _ {U : Type 0} (m : Motion) (perm s : ℕ) (ok : Valid m) where
   pub exact_planned : (x : U) (w : List ℕ) → s < 2 ^ m.poses → PairRule m perm s w → Exact m perm s (Ok x)
   exact_planned x w small r u a e = (λ f. absurd (not_refused x (Ok x) refl f), λ f. absurd (f w ((pair_laws m perm ok).orients s w small r)))
@@ -36,4 +33,4 @@ module _ {U : Type 0} (m : Motion) (perm s : ℕ) (ok : Valid m) where
 
   -- an image has no absent pose
   pub exact_no_pose : 2 ^ m.poses ≤ s → Exact {U = U} m perm s (Err NoPose)
-  exact_no_pose big u a e = absurd (not_both (2 ^ m.poses) s big (subst (λ (x : ℕ). x < 2 ^ m.poses) (sym e) (image-below m ok (every m) u (usable_below m perm u a))))
+  exact_no_pose big u a e = absurd (not-le_of_lt (subst (λ (x : ℕ). x < 2 ^ m.poses) (sym e) (image-below m ok (every m) u (usable_below m perm u a))) big)

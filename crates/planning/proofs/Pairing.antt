@@ -1,19 +1,16 @@
 -- The node of a pair of the set, and that the ground and the table have it.
-use Rattle.std.proofs.Common.{◌≡◌, ℕ, ◌+◌, ◌<◌, Bool, true, cond, ◌&&◌, ltb, List, Ok, Err, Result, ap, ◌∙◌, arith}
-use Rattle.std.proofs.lemmas.Bool.{cond-true, lt-ltb}
+use Rattle.std.proofs.Common.{◌≡◌, ℕ, ◌+◌, ◌<◌, cond, ◌&&◌, ltb, List, Ok, Err, Result, ap, ◌∙◌, arith}
+use Rattle.std.proofs.lemmas.Bool.{and_from, cond-true, lt-ltb}
 use Rattle.refusals.specs.declared.Refusal.TheVariants.{NoPose}
 use Rattle.graphs.specs.Pairs.{start, pair_node, node_of}
 use Rattle.graphs.proofs.Meeting.{node_of-less}
 use Rattle.graphs.proofs.Numbering.{pair_inside}
 use Rattle.grounds.specs.Reach.{entry_of, distance_told}
 
-both_true : (a b : Bool) → a ≡ true → b ≡ true → (a && b) ≡ true
-both_true a b e f = rw e f
-
 module _ (n p q : ℕ) (l : p < q) (k : q < n) where
   pub node_is : cond (ltb p n && ltb q n) (Ok (node_of n p q)) (Err NoPose) ≡ Ok (pair_node p q)
   node_is =
-      cond-true (ltb p n && ltb q n) (Ok (node_of n p q)) (Err NoPose) (both_true (ltb p n) (ltb q n) (lt-ltb p n (omega arith)) (lt-ltb q n k))
+      cond-true (ltb p n && ltb q n) (Ok (node_of n p q)) (Err NoPose) (and_from (ltb p n) (ltb q n) (lt-ltb p n (omega arith)) (lt-ltb q n k))
       ∙ ap Ok (node_of-less n p q l)
 
   pub told_is : (table : List ℕ) → distance_told table (start n + 1) (pair_node p q) ≡ Ok (entry_of table (pair_node p q))

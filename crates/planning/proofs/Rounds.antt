@@ -1,13 +1,13 @@
 -- The rounds of the planner: how they start, go on and end, and why the plan has room for them.
-use Rattle.std.proofs.Common.{◌≡◌, ℕ, zero, suc, ◌+◌, ◌*◌, ◌/◌, ◌%◌, ◌^◌, ◌<◌, ◌≤◌, count_ones, true, false, T, List, [], ◌++◌, length, sym, refl, ap, ◌∙◌, subst, inl, inr, append_assoc, append-nil, mul-le-mul_right, suc-mul, mod-lt, lit<, lt_of_lt_of_le, pow_mono, arith, length-append}
-use Rattle.std.proofs.lemmas.Bool.{cases_Bool, cond-true, cond-false, eqb-true, eqb-false}
+use Rattle.std.proofs.Common.{◌≡◌, ℕ, zero, suc, ◌+◌, ◌*◌, ◌/◌, ◌%◌, ◌^◌, ◌<◌, ◌≤◌, count_ones, T, List, [], ◌++◌, length, sym, refl, ap, ◌∙◌, subst, inl, inr, append_assoc, append-nil, mul-le-mul_right, suc-mul, mod-lt, lit<, lt_of_lt_of_le, pow_mono, arith, length-append}
+use Rattle.std.proofs.lemmas.Bool.{cases_Bool, eqb-true, eqb-false}
 use Rattle.std.proofs.lemmas.Nat.{mod-pow-add, pow_pos}
 use Rattle.std.proofs.Math.Nat.{mod-one, mod-eq_of_lt}
 use lib.Count.{ones_cat, ones-ones}
 use Rattle.feeders.specs.Motion.{Motion, Valid}
 use Rattle.feeders.specs.Sets.{has, all_below}
 use Rattle.feeders.specs.Image.{image}
-use Rattle.feeders.proofs.Sets.{has-below, sets_ext_T, not-has-zero}
+use Rattle.feeders.proofs.Sets.{T_of_true, has-below, sets_ext_T, not-has-zero}
 use Rattle.feeders.proofs.Images.{image-below}
 use Rattle.graphs.specs.Distance.{Way, NoDistance}
 use Rattle.graphs.specs.Pairs.{start, pair_node, pair_graph}
@@ -18,7 +18,7 @@ use Rattle.graphs.proofs.Distances.{way_leads, way_length}
 use Rattle.graphs.proofs.Bounds.{distance_below}
 use Rattle.graphs.proofs.Numbering.{pair_inside, pair_sound, start_few}
 use Rattle.graphs.proofs.Meeting.{leads_meets}
-use Rattle.graphs.proofs.Sizes.{members_some, image_shrinks, image_some, size_two, usable_below}
+use Rattle.graphs.proofs.Sizes.{members-has, members_lacks, members_some, image_shrinks, image_some, size_two, usable_below}
 use Rattle.planning.specs.Round.{size, Round}
 use Rattle.planning.specs.Walk.{Fits}
 
@@ -28,17 +28,11 @@ pub size_is : (s : ℕ) → size s ≡ size_of s
 unfolding size
 size_is s = refl
 
-members-has : (n s : ℕ) → has s n ≡ true → members (suc n) s ≡ members n s + 1
-members-has n s e = cond-true (has s n) (suc (members n s)) (members n s) e ∙ omega arith
-
-members_lacks : (n s : ℕ) → has s n ≡ false → members (suc n) s ≡ members n s
-members_lacks n s e = cond-false (has s n) (suc (members n s)) (members n s) e
-
 members_few : (n s : ℕ) → members n s ≤ n
 members_few zero s = omega arith
 members_few (suc n) s =
     elim (cases_Bool (has s n)) [
-      | inl e ↦ omega (arith, members_few n s, members-has n s e)
+      | inl e ↦ omega (arith, members_few n s, members-has n s (T_of_true (has s n) e))
       | inr e ↦ omega (arith, members_few n s, members_lacks n s e)
     ]
 
@@ -52,7 +46,7 @@ members_ones (suc n) s =
     let cut : s % 2 ^ suc n ≡ bit * 2 ^ n + rest = subst (λ (k : ℕ). s % 2 ^ k ≡ bit * 2 ^ n + rest) more (mod-pow-add s 1 n) in
     let sum : count_ones (s % 2 ^ suc n) ≡ count_ones bit + count_ones rest = ap count_ones cut ∙ ones_cat n bit rest (mod-lt s {m = 2 ^ n} (pow_pos n)) in
     elim (cases_Bool (has s n)) [
-      | inl e ↦ omega (arith, sum, members-has n s e, members_ones n s, ap count_ones (eqb-true bit 1 e), ones-ones 1)
+      | inl e ↦ omega (arith, sum, members-has n s (T_of_true (has s n) e), members_ones n s, ap count_ones (eqb-true bit 1 e), ones-ones 1)
       | inr e ↦
           let none : bit ≡ 0 = omega (arith, eqb-false bit 1 e, mod-lt (s / 2 ^ n) {m = 2} (lit< tt)) in
           omega (arith, sum, members_lacks n s e, members_ones n s, ap count_ones none, ones-ones 0)
@@ -68,16 +62,13 @@ size_few s = subst (λ (k : ℕ). k ≤ 32) (sym (size_is s)) (members_few 32 s)
 members-none : (n s : ℕ) → members n s ≡ 0 → (p : ℕ) → p < n → T (has s p) → ⊥
 members-none n s e p l t = omega (arith, members_some n s p l t)
 
-below_all : (p n : ℕ) → p < n → n ≤ 32 → p < 32
-below_all p n l few = omega arith
-
 some_of : (k : ℕ) → (k ≡ 0 → ⊥) → 1 ≤ k
 some_of k f = omega arith
 
 pub size_positive : (n s : ℕ) → n ≤ 32 → s < 2 ^ n → (s ≡ 0 → ⊥) → 1 ≤ size s
 size_positive n s few small f =
     subst (λ (k : ℕ). 1 ≤ k) (sym (size_is s))
-    (some_of (size_of s) (λ e. f (sets_ext_T s 0 (λ p t. absurd (members-none 32 s e p (below_all p n (has-below n s p small t) few) t)) (λ p t. absurd (not-has-zero p t)))))
+    (some_of (size_of s) (λ e. f (sets_ext_T s 0 (λ p t. absurd (members-none 32 s e p (lt_of_lt_of_le (has-below n s p small t) few) t)) (λ p t. absurd (not-has-zero p t)))))
 
 -- ---- numbers
 
@@ -89,19 +80,13 @@ room a here all d k h two few l small =
 pays : (a b here next all k : ℕ) → a + here * k ≤ all * k → b < k + 1 → next < here → (a + b) + next * k ≤ all * k
 pays a b here next all k h l less = omega (arith, mul-le-mul_right k less, suc-mul next k)
 
-none_yet : (s k : ℕ) → 0 + s * k ≤ s * k
-none_yet s k = omega arith
-
-one_left : (k : ℕ) → 1 ≤ k → k < 2 → k ≡ 1
-one_left k h l = omega arith
-
 pub round-starts : (m : Motion) (perm s : ℕ) → Valid m → s < 2 ^ m.poses → (s ≡ 0 → ⊥) → Round m perm s s []
 round-starts m perm s ok small f = record {
   inside = small;
   some = size_positive m.poses s ok.few_poses small f;
   onward = λ rest r. r;
   stuck = λ t. t;
-  short = none_yet (size s) (start m.poses);
+  short = omega arith;
 }
 
 module _ (m : Motion) (perm s here : ℕ) (made : List ℕ) (ok : Valid m) (round : Round m perm s here made) where
@@ -116,7 +101,7 @@ module _ (m : Motion) (perm s here : ℕ) (made : List ℕ) (ok : Valid m) (roun
     away_few = distance_below (pair_graph m) perm (pair_node p q) d (pair_sound m ok) node_below x.away
 
     two_here : 2 ≤ size here
-    two_here = subst (λ (k : ℕ). 2 ≤ k) (sym (size_is here)) (size_two here p q x.ordered (below_all q m.poses greater_below ok.few_poses) x.lesser x.greater)
+    two_here = subst (λ (k : ℕ). 2 ≤ k) (sym (size_is here)) (size_two here p q x.ordered (lt_of_lt_of_le greater_below ok.few_poses) x.lesser x.greater)
 
     -- the way of the nearest pair fits into the plan
     pub round_fits : Fits (pair_graph m) perm (pair_node p q) made
@@ -166,8 +151,9 @@ module _ (m : Motion) (perm s here : ℕ) (made : List ℕ) (ok : Valid m) (roun
 
   pub round_met : size here < 2 → PairRule m perm s made
   round_met l =
+      let one : size here ≡ 1 = omega (arith, round.some) in
       subst (PairRule m perm s) (append-nil made)
-      (round.onward [] (met {s = here} (sym (size_is here) ∙ one_left (size here) round.some l)))
+      (round.onward [] (met {s = here} (sym (size_is here) ∙ one)))
 
   pub round_apart : 2 ≤ size here → ((p q : ℕ) → p < q → T (has here p) → T (has here q) → NoDistance (pair_graph m) perm (pair_node p q)) → Stuck m perm s
   round_apart l none = round.stuck (apart {s = here} (subst (λ (k : ℕ). 2 ≤ k) (size_is here) l) none)

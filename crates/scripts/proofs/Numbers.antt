@@ -1,18 +1,11 @@
 -- Numbers in decimal digits, read from the left.
-use Rattle.std.proofs.Common.{◌≡◌, ℕ, suc, ◌+◌, ◌-◌, ◌*◌, ◌^◌, ◌<◌, ◌≤◌, true, false, cond, leb, ◌⊎◌, ◌↔◌, List, [], ◌∷◌, length, get_or, drop, Some, None, Option, sym, ap, ◌∙◌, inl, inr, mul_assoc, add-mul, pow-suc, zero-mul, add-one, arith}
+use Rattle.std.proofs.Common.{◌≡◌, ℕ, suc, ◌+◌, ◌-◌, ◌*◌, ◌^◌, ◌<◌, ◌≤◌, true, false, cond, leb, ◌⊎◌, ◌↔◌, List, [], ◌∷◌, length, get_or, drop, Some, None, sym, ap, ◌∙◌, inl, inr, mul_assoc, add-mul, pow-suc, zero-mul, add-one, arith}
 use Rattle.std.proofs.lemmas.List.{at_drop_more, at_drop_all}
 use Rattle.std.proofs.lemmas.Bool.{cases_Bool, cases_lt, and_parts, and_from, cond-true, cond-false, leb-true, le-leb, lt-leb}
+use Rattle.std.proofs.lemmas.Option.{none-some, same_Some}
 use Rattle.std.specs.Char.{is_ascii_digit}
 use Rattle.scripts.specs.Requests.{AreDigits, value_of}
 use Rattle.scripts.specs.Reading.{read_on, number_in}
-
--- ---- options
-
-pub none≢some : {X : Type 0} (x : X) → ◌≡◌ {A = Option X} None (Some x) → ⊥
-none≢some x h = let z : ◌≡◌ {A = ℕ} 0 1 = cc in omega arith
-
-pub some_injective : {X : Type 0} (x y : X) → ◌≡◌ {A = Option X} (Some x) (Some y) → x ≡ y
-some_injective x y h = cc
 
 -- ---- one digit more, as the code reads them
 
@@ -83,15 +76,15 @@ digits_read_on k (d ∷ ds) n h =
       | inl e ↦
           let a = ascii_digit_true d e in
           (a.0, a.1, digits_read_on (10 * k + (d - 48)) ds n (sym (cond-true (is_ascii_digit d) more None e) ∙ h))
-      | inr e ↦ absurd (none≢some n (sym (cond-false (is_ascii_digit d) more None e) ∙ h))
+      | inr e ↦ absurd (none-some n (sym (cond-false (is_ascii_digit d) more None e) ∙ h))
     ]
 
 number_in-within : (ds : List ℕ) (n : ℕ) → number_in ds ≡ Some n → (1 ≤ length ds) × (length ds ≤ 5)
 number_in-within ds n h =
     elim (cases_lt 0 (length ds)) [
-      | inr g ↦ absurd (none≢some n (sym (number_in_past ds (inl (omega arith))) ∙ h))
+      | inr g ↦ absurd (none-some n (sym (number_in_past ds (inl (omega arith))) ∙ h))
       | inl l ↦ elim (cases_lt 5 (length ds)) [
-        | inl g ↦ absurd (none≢some n (sym (number_in_past ds (inr g)) ∙ h))
+        | inl g ↦ absurd (none-some n (sym (number_in_past ds (inr g)) ∙ h))
         | inr k ↦ (omega arith, k)
       ]
     ]
@@ -103,7 +96,7 @@ number_in_digits ds n = (
       let w = number_in-within ds n h in
       let read = sym (number_in-fits ds w.0 w.1) ∙ h in
       let a = digits_read_on 0 ds n read in
-      let e : 0 * 10 ^ length ds + value_of ds ≡ n = some_injective (0 * 10 ^ length ds + value_of ds) n (sym (read_on_digits 0 ds a) ∙ read) in
+      let e : 0 * 10 ^ length ds + value_of ds ≡ n = same_Some (0 * 10 ^ length ds + value_of ds) n (sym (read_on_digits 0 ds a) ∙ read) in
       (w.0, w.1, a, omega (arith, e, zero-mul (10 ^ length ds))),
   λ h.
       let e : 0 * 10 ^ length ds + value_of ds ≡ n = omega (arith, h.3, zero-mul (10 ^ length ds)) in
