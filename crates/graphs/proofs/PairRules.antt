@@ -1,5 +1,5 @@
 -- The pair rule orients with few actions, and where all poses can be oriented it never gets stuck.
-use Rattle.std.proofs.Common.{◌≡◌, ℕ, suc, ◌+◌, ◌-◌, ◌*◌, ◌^◌, ◌<◌, ◌≤◌, T, ◌⊎◌, List, ◌++◌, length, sym, refl, subst, ap₂, lt_trans, lt_of_lt_of_le, mul-le-mul_right, suc-mul, arith, length-append}
+use Rattle.std.proofs.Common.{◌≡◌, ℕ, suc, ◌+◌, ◌-◌, ◌*◌, ◌^◌, ◌<◌, ◌≤◌, T, ◌⊎◌, List, ◌++◌, length, sym, refl, subst, ap₂, lt_trans, lt_of_lt_of_le, mul-le-mul_right, suc-mul, ne_of_gt, arith, length-append}
 use Rattle.feeders.specs.Motion.{Motion, Valid, brings}
 use Rattle.feeders.specs.Sets.{has}
 use Rattle.feeders.specs.Image.{image}
@@ -20,9 +20,6 @@ use Rattle.graphs.proofs.Sizes.{size_some, size_two, two_in, one_in, image_shrin
 
 tie : (p q d p₁ q₁ d₁ : ℕ) → (d < d₁) ⊎ ((d ≡ d₁) × ((p < p₁) ⊎ ((p ≡ p₁) × (q ≤ q₁)))) → (d₁ < d) ⊎ ((d₁ ≡ d) × ((p₁ < p) ⊎ ((p₁ ≡ p) × (q₁ ≤ q)))) → (p ≡ p₁) × (q ≡ q₁)
 tie p q d p₁ q₁ d₁ h k = (omega arith, omega arith)
-
-not_one_two : (k : ℕ) → k ≡ 1 → 2 ≤ k → ⊥
-not_one_two k e h = omega arith
 
 -- what one round adds is paid by the poses that it takes away
 rounds : (a r b c d k : ℕ) → a ≡ d → d < k + 1 → r ≤ (b - 1) * k → 1 ≤ b → b < c → a + r ≤ (c - 1) * k
@@ -80,15 +77,15 @@ module _ (m : Motion) (perm : ℕ) (ok : Valid m) where
 
   plan_one : (s : ℕ) (x y : List ℕ) → PairRule m perm s x → s < 2 ^ m.poses → PairRule m perm s y → x ≡ y
   plan_one s x y (met o) h (met o₁) = refl
-  plan_one s x y (met o) h (bring {p = p} {q = q} {d = d} n₁ w₁ r₁) = absurd (not_one_two (size_of s) o (nearest_two s p q d h n₁))
-  plan_one s x y (bring {p = p} {q = q} {d = d} n w r) h (met o) = absurd (not_one_two (size_of s) o (nearest_two s p q d h n))
+  plan_one s x y (met o) h (bring {p = p} {q = q} {d = d} n₁ w₁ r₁) = absurd (ne_of_gt (nearest_two s p q d h n₁) o)
+  plan_one s x y (bring {p = p} {q = q} {d = d} n w r) h (met o) = absurd (ne_of_gt (nearest_two s p q d h n) o)
   plan_one s x y (bring {p = p} {q = q} {d = d} {w = w} {rest = rest} n z r) h (bring {p = p₁} {q = q₁} {d = d₁} {w = w₁} {rest = rest₁} n₁ z₁ r₁) =
       let e : w₁ ≡ w = same_way s p q d p₁ q₁ d₁ w w₁ n n₁ z z₁ in
       ap₂ (λ (a b : List ℕ). a ++ b) (sym e) (plan_one (image m s w) rest rest₁ r (way_below s p q w z) (subst (λ (a : List ℕ). PairRule m perm (image m s a) rest₁) e r₁))
 
   plan_not_stuck : (s : ℕ) (x : List ℕ) → PairRule m perm s x → s < 2 ^ m.poses → Stuck m perm s → ⊥
-  plan_not_stuck s x (met o) h (apart k none) = not_one_two (size_of s) o k
-  plan_not_stuck s x (met o) h (after {p = p} {q = q} {d = d} n₁ z₁ t) = not_one_two (size_of s) o (nearest_two s p q d h n₁)
+  plan_not_stuck s x (met o) h (apart k none) = ne_of_gt k o
+  plan_not_stuck s x (met o) h (after {p = p} {q = q} {d = d} n₁ z₁ t) = ne_of_gt (nearest_two s p q d h n₁) o
   plan_not_stuck s x (bring {p = p} {q = q} {d = d} n z r) h (apart k none) = none p q n.ordered n.lesser n.greater n.away.some.0 n.away.some.1
   plan_not_stuck s x (bring {p = p} {q = q} {d = d} {w = w} {rest = rest} n z r) h (after {p = p₁} {q = q₁} {d = d₁} {w = w₁} n₁ z₁ t) =
       let e : w₁ ≡ w = same_way s p q d p₁ q₁ d₁ w w₁ n n₁ z z₁ in

@@ -1,5 +1,5 @@
 -- How many poses a set has, and what becomes of that number under a list of actions.
-use Rattle.std.proofs.Common.{◌≡◌, ℕ, zero, suc, ◌-◌, ◌^◌, ◌<◌, ◌≤◌, true, false, T, ◌↔◌, List, [], ◌∷◌, sym, refl, ap, ◌∙◌, subst, inl, inr, le_trans, lt_of_lt_of_le, arith}
+use Rattle.std.proofs.Common.{◌≡◌, ℕ, zero, suc, ◌-◌, ◌^◌, ◌<◌, ◌≤◌, true, false, T, ◌↔◌, List, [], ◌∷◌, sym, refl, ap, ◌∙◌, subst, inl, inr, le_trans, lt_of_lt_of_le, le_of_eq, arith}
 use Rattle.std.specs.Int.{bit_at}
 use Rattle.std.proofs.lemmas.Nat.{pow_pos}
 use Rattle.std.proofs.lemmas.Nat.Bits.{bit_at_ones}
@@ -149,9 +149,6 @@ gathered_shrinks m s w n (suc k) p q h l t u b =
 -- ---- the size of a set
 
 -- `omega` computes a size of 32 steps to no end, so the facts about sizes are cited from lemmas on any n.
-pub least_one : (k : ℕ) → k ≡ 1 → 1 ≤ k
-least_one k e = omega arith
-
 pub size_one : (p : ℕ) → p < 32 → size_of (2 ^ p) ≡ 1
 size_one p h = members_one 32 p h
 
@@ -173,7 +170,7 @@ one_in s p q h hp hq t u = only_member 32 s p q h hp hq t u
 -- a set has one pose exactly when it is the bit of some pose
 pub one_bit : (s : ℕ) → s < 2 ^ 32 → One s ↔ ((p : ℕ) × (p < 32) × (s ≡ 2 ^ p))
 one_bit s h = (
-  λ o. let r = some_in s (least_one (size_of s) o) in (r.0, r.1, bit o r.0 r.1 r.2),
+  λ o. let r = some_in s (le_of_eq (sym o)) in (r.0, r.1, bit o r.0 r.1 r.2),
   λ r. ap size_of r.2 ∙ size_one r.0 r.1,
 )
   where

@@ -1,5 +1,5 @@
 -- Lists that orient: why each call leaves one where it leaves a plan, and why no list does where a call is refused for good.
-use Rattle.std.proofs.Common.{◌≡◌, ℕ, ◌+◌, ◌-◌, ◌*◌, ◌/◌, ◌^◌, ◌<◌, ◌≤◌, T, eqb, List, [], ◌∷◌, ◌++◌, length, take, drop, Some, None, sym, refl, ap, ◌∙◌, subst, inl, inr, lt_of_lt_of_le, mul_assoc, mul_comm, arith, eqb→eq, pow_mono}
+use Rattle.std.proofs.Common.{◌≡◌, ℕ, ◌+◌, ◌-◌, ◌*◌, ◌/◌, ◌^◌, ◌<◌, ◌≤◌, T, eqb, List, [], ◌∷◌, ◌++◌, length, take, drop, Some, None, sym, refl, ap, ◌∙◌, subst, inl, inr, lt_of_lt_of_le, mul_assoc, mul_comm, le_of_eq, le_trans, le_antisymm, arith, eqb→eq, pow_mono}
 use Rattle.std.proofs.lemmas.Bool.{cases_Bool, cond-true, cond-false}
 use Rattle.std.proofs.lemmas.List.{take-append-drop}
 use Rattle.std.proofs.lemmas.Option.{none-some, same_Some}
@@ -15,7 +15,7 @@ use Rattle.graphs.specs.Poses.{pose_graph}
 use Rattle.graphs.proofs.Numbering.{start_double}
 use Rattle.graphs.proofs.PairRules.{pair_laws}
 use Rattle.graphs.proofs.PoseRules.{pose_laws}
-use Rattle.graphs.proofs.Sizes.{has-every, image-size, image_some, one_bit, size_one, image_member, least_one}
+use Rattle.graphs.proofs.Sizes.{has-every, image-size, image_some, one_bit, size_one, image_member}
 use Rattle.histories.specs.History.{permits, steps, possible, permitted, Permitted, Orients, EndsAt}
 use Rattle.histories.specs.Rules.{Plans, advanced, without}
 use Rattle.histories.specs.declared.call.Call.{Call}
@@ -36,16 +36,10 @@ advanced_was (Some (b ∷ v)) a w e =
 
 -- ---- images of one pose
 
-one_between : (k : ℕ) → 1 ≤ k → k ≤ 1 → k ≡ 1
-one_between k h l = omega arith
-
-one_most : (j k : ℕ) → j ≤ k → k ≡ 1 → j ≤ 1
-one_most j k l e = omega arith
-
 module _ (m : Motion) (ok : Valid m) where
   pub image_one : (s : ℕ) (w : List ℕ) → s < 2 ^ m.poses → T (all_below m.actions w) → One s → One (image m s w)
   image_one s w l t o =
-      one_between (size_of (image m s w)) (image_some m ok s w l t (least_one (size_of s) o)) (one_most (size_of (image m s w)) (size_of s) (image-size m ok s w) o)
+      le_antisymm (le_trans (image-size m ok s w) (le_of_eq o)) (image_some m ok s w l t (le_of_eq (sym o)))
 
   pub image_bit : (e : ℕ) (w : List ℕ) → e < m.poses → image m (2 ^ e) w ≡ 2 ^ brings m e w
   image_bit e w l =

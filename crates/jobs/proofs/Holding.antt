@@ -1,5 +1,5 @@
 -- The same for the calls that make, take and change the plan.
-use Rattle.std.proofs.Common.{◌≡◌, ℕ, ◌+◌, ◌^◌, ◌<◌, ◌≤◌, T, ◌⊎◌, List, [], ◌∷◌, ◌++◌, length, Some, None, Ok, Err, Option, Result, sym, refl, ap, ◌∙◌, subst, inl, inr, not-le_of_lt, arith, length-append, Bor}
+use Rattle.std.proofs.Common.{◌≡◌, ℕ, ◌+◌, ◌^◌, ◌<◌, ◌≤◌, T, ◌⊎◌, List, [], ◌∷◌, ◌++◌, length, Some, None, Ok, Err, Option, Result, sym, refl, ap, ◌∙◌, subst, inl, inr, not-le_of_lt, ne_of_gt, arith, length-append, Bor}
 use Rattle.std.specs.Option.{option_map}
 use Rattle.std.specs.Result.{result_unwrap_or}
 use Rattle.std.proofs.lemmas.Bool.{cases_lt}
@@ -75,11 +75,8 @@ held_short None w e = absurd (cc)
 held_short (Some p) w e = let same : w ≡ list_of p = cc in rw same (length-list_of_le p)
 
 -- the possible poses are not none
-some_not-none : (k : ℕ) → 1 ≤ k → k ≡ 0 → ⊥
-some_not-none k l e = omega arith
-
 not-empty : (m : Motion) → Valid m → (h : List Call) → possible m h ≡ 0 → ⊥
-not-empty m ok h e = some_not-none (size_of (possible m h)) (possible_some m ok h) (ap size_of e ∙ members-zero 32)
+not-empty m ok h e = ne_of_gt (possible_some m ok h) (ap size_of e ∙ members-zero 32)
 
 module _ {F : Type 0} (m : Motion) (ok : Valid m) where
   -- an accepted call that leaves the words as they are, and the list w held

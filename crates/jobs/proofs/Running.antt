@@ -1,8 +1,8 @@
 -- One call more, in a run of calls.
-use Rattle.std.proofs.Common.{◌≡◌, ℕ, ◌+◌, ◌<◌, ◌≤◌, min, List, [], ◌∷◌, reverse, length, get_or, take, set, None, Ok, sym, refl, ap, ◌∙◌, inl, inr, arith, get_or-set_other, get_or-set_same}
+use Rattle.std.proofs.Common.{◌≡◌, ℕ, ◌+◌, ◌<◌, ◌≤◌, List, [], ◌∷◌, reverse, length, get_or, take, set, None, Ok, sym, refl, ap, ◌∙◌, inl, inr, arith, get_or-set_other, get_or-set_same}
 use mathlib.Core.List.{reverse-append}
-use Rattle.std.proofs.lemmas.List.{take_more, take_all}
-use Rattle.std.proofs.lemmas.Bool.{cases_eq, cases_lt}
+use Rattle.std.proofs.lemmas.List.{take_more}
+use Rattle.std.proofs.lemmas.Bool.{cases_eq}
 use Rattle.feeders.specs.Motion.{Motion}
 use Rattle.histories.specs.Rules.{Plans, Answer}
 use Rattle.histories.specs.declared.call.Call.{Call}
@@ -54,10 +54,3 @@ module _ {F : Type 0} (m : Motion) (calls : List Call) (old : List Answer) where
         ];
         rest = λ k h. get_or-set_other answers i k r (Ok None) (omega arith) ∙ ran.rest k (omega arith);
       }
-
-pub take_less : (calls : List Call) (n i : ℕ) → i ≡ min (length calls) n → take i calls ≡ take n calls
-take_less calls n i e =
-    elim (cases_lt n (length calls)) [
-      | inl l ↦ let q : i ≡ n = omega arith in ap (λ (k : ℕ). take k calls) q
-      | inr g ↦ take_all i calls (omega arith) ∙ sym (take_all n calls g)
-    ]

@@ -1,11 +1,10 @@
 -- How the planner's answers meet what is promised of them.
-use Rattle.std.proofs.Common.{◌≡◌, ℕ, ◌^◌, ◌<◌, ◌≤◌, List, Ok, Err, Result, sym, refl, subst, not-le_of_lt, arith}
+use Rattle.std.proofs.Common.{◌≡◌, ℕ, ◌^◌, ◌<◌, ◌≤◌, List, Ok, Err, Result, sym, refl, subst, not-le_of_lt, le_of_eq, le_trans, not-suc-le-zero, arith}
 use Rattle.refusals.specs.declared.Refusal.{Refusal}
 use Rattle.refusals.specs.declared.Refusal.TheVariants.{NoPose, CannotOrient}
 use Rattle.feeders.specs.Motion.{Motion, Valid}
-use Rattle.feeders.specs.Image.{image}
 use Rattle.feeders.proofs.Images.{image-below}
-use Rattle.graphs.specs.PairRule.{size_of, PairRule, Stuck, Orients, every}
+use Rattle.graphs.specs.PairRule.{PairRule, Stuck, Orients, every}
 use Rattle.graphs.proofs.Sizes.{members-zero, image-size, usable_below}
 use Rattle.graphs.proofs.PairRules.{pair_laws}
 use Rattle.planning.specs.Planned.{Exact}
@@ -13,9 +12,6 @@ use Rattle.planning.specs.Planned.{Exact}
 -- an answer that is a value is no refusal
 not_refused : {U : Type 0} (x : U) (r : Result U Refusal) → r ≡ Ok x → r ≡ Err CannotOrient → ⊥
 not_refused x r e f = let z : ◌≡◌ {A = ℕ} 0 1 = cc in omega arith
-
-not_one : (a b : ℕ) → a ≤ b → b ≡ 0 → a ≡ 1 → ⊥
-not_one a b h e f = omega arith
 
 module _ {U : Type 0} (m : Motion) (perm s : ℕ) (ok : Valid m) where
   pub exact_planned : (x : U) (w : List ℕ) → s < 2 ^ m.poses → PairRule m perm s w → Exact m perm s (Ok x)
@@ -29,7 +25,7 @@ module _ {U : Type 0} (m : Motion) (perm s : ℕ) (ok : Valid m) where
   exact_empty z u a e = (λ f w o. none w (subst (λ (x : ℕ). Orients m perm x w) z o), λ f. refl)
     where
       none : (w : List ℕ) → Orients m perm 0 w → ⊥
-      none w o = not_one (size_of (image m 0 w)) (size_of 0) (image-size m ok 0 w) (members-zero 32) o.1
+      none w o = not-suc-le-zero (le_trans (le_of_eq (sym o.1)) (le_trans (image-size m ok 0 w) (le_of_eq (members-zero 32))))
 
   -- an image has no absent pose
   pub exact_no_pose : 2 ^ m.poses ≤ s → Exact {U = U} m perm s (Err NoPose)

@@ -1,5 +1,5 @@
 -- The rounds of the planner: how they start, go on and end, and why the plan has room for them.
-use Rattle.std.proofs.Common.{◌≡◌, ℕ, zero, suc, ◌+◌, ◌*◌, ◌/◌, ◌%◌, ◌^◌, ◌<◌, ◌≤◌, count_ones, T, List, [], ◌++◌, length, sym, refl, ap, ◌∙◌, subst, inl, inr, append_assoc, append-nil, mul-le-mul_right, suc-mul, mod-lt, lit<, lt_of_lt_of_le, pow_mono, arith, length-append}
+use Rattle.std.proofs.Common.{◌≡◌, ℕ, zero, suc, ◌+◌, ◌*◌, ◌/◌, ◌%◌, ◌^◌, ◌<◌, ◌≤◌, count_ones, T, List, [], ◌++◌, length, sym, refl, ap, ◌∙◌, subst, inl, inr, append_assoc, append-nil, mul-le-mul_right, suc-mul, mod-lt, lit<, lt_of_lt_of_le, pow_mono, pos_of_ne-zero, arith, length-append}
 use Rattle.std.proofs.lemmas.Bool.{cases_Bool, eqb-true, eqb-false}
 use Rattle.std.proofs.lemmas.Nat.{mod-pow-add, pow_pos}
 use Rattle.std.proofs.Math.Nat.{mod-one, mod-eq_of_lt}
@@ -62,13 +62,10 @@ size_few s = subst (λ (k : ℕ). k ≤ 32) (sym (size_is s)) (members_few 32 s)
 members-none : (n s : ℕ) → members n s ≡ 0 → (p : ℕ) → p < n → T (has s p) → ⊥
 members-none n s e p l t = omega (arith, members_some n s p l t)
 
-some_of : (k : ℕ) → (k ≡ 0 → ⊥) → 1 ≤ k
-some_of k f = omega arith
-
 pub size_positive : (n s : ℕ) → n ≤ 32 → s < 2 ^ n → (s ≡ 0 → ⊥) → 1 ≤ size s
 size_positive n s few small f =
     subst (λ (k : ℕ). 1 ≤ k) (sym (size_is s))
-    (some_of (size_of s) (λ e. f (sets_ext_T s 0 (λ p t. absurd (members-none 32 s e p (lt_of_lt_of_le (has-below n s p small t) few) t)) (λ p t. absurd (not-has-zero p t)))))
+    (pos_of_ne-zero (λ e. f (sets_ext_T s 0 (λ p t. absurd (members-none 32 s e p (lt_of_lt_of_le (has-below n s p small t) few) t)) (λ p t. absurd (not-has-zero p t)))))
 
 -- ---- numbers
 

@@ -1,12 +1,12 @@
 -- A way appended to a list, one label after the other.
-use Rattle.std.proofs.Common.{◌≡◌, ℕ, zero, suc, ◌<◌, T, leb, List, [], ◌∷◌, ◌++◌, length, Some, None, Ok, Err, Result, sym, ap, ◌∙◌, subst, inl, inr, append_assoc, append-nil, arith, length-append}
-use Rattle.std.proofs.lemmas.Bool.{cases_lt, cond-true, cond-false, le-leb, lt-leb}
+use Rattle.std.proofs.Common.{◌≡◌, ℕ, zero, suc, ◌<◌, T, List, [], ◌∷◌, ◌++◌, length, Some, None, Ok, Result, sym, ap, ◌∙◌, subst, inl, inr, append_assoc, append-nil, arith, length-append}
+use Rattle.std.proofs.lemmas.Bool.{cases_lt}
 use Rattle.refusals.specs.declared.Refusal.{Refusal}
-use Rattle.refusals.specs.declared.Refusal.TheVariants.{PlanTooLong}
 use Rattle.refusals.specs.Outcomes.{Leaves}
 use Rattle.plans.specs.declared.plan.Plan.{Plan}
 use Rattle.plans.specs.Held.{list_of}
 use Rattle.plans.specs.Calls.{put, pushed}
+use Rattle.plans.proofs.Fitting.{put-fits, put_too_long}
 use Rattle.graphs.specs.Graph.{Graph, Sound}
 use Rattle.graphs.specs.Distance.{Distance, Way}
 use Rattle.graphs.specs.Distance.Way.{there, onward}
@@ -45,8 +45,8 @@ module _ (g : Graph) (s v u : ℕ) (before after : List ℕ) (ok : Sound g) (wal
 put_is : (xs ys : List ℕ) → put xs ≡ Ok ys → ys ≡ xs
 put_is xs ys e =
     elim (cases_lt 16384 (length xs)) [
-      | inr l ↦ let f = cond-true (leb (length xs) 16384) (Ok xs) (Err PlanTooLong) (le-leb (length xs) 16384 l) in cc
-      | inl g ↦ let f = cond-false (leb (length xs) 16384) (Ok xs) (Err PlanTooLong) (lt-leb (length xs) 16384 g) in cc
+      | inl l ↦ let f = put_too_long xs l in cc
+      | inr g ↦ let f = put-fits xs g in cc
     ]
 
 pub pushed_is : {U : Type 0} (xs : List ℕ) (a : ℕ) (before after : Plan) (r : Result U Refusal) (u : U) → r ≡ Ok u → Leaves list_of (pushed xs a) before after r → list_of after ≡ xs ++ (a ∷ [])

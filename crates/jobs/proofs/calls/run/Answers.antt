@@ -1,10 +1,10 @@
-use Rattle.std.proofs.Common.{◌≡◌, ◌<◌, min, List, [], reverse, length, get_or, None, sym, refl, ◌∙◌, subst, arith}
-use Rattle.std.proofs.lemmas.List.{length-take, get_or-take}
+use Rattle.std.proofs.Common.{◌≡◌, ◌<◌, min, List, [], reverse, length, get_or, take, None, sym, refl, ap, ◌∙◌, subst, arith}
+use Rattle.std.proofs.lemmas.List.{length-take, get_or-take, take_min}
 use Rattle.histories.specs.declared.call.Call.{Call}
 use Rattle.histories.specs.declared.call.Call.TheVariants.{Bar}
 use Rattle.histories.proofs.Deciding.{determined}
 use Rattle.jobs.specs.Reach.{Reached, Leads}
-use Rattle.jobs.proofs.Running.{Ran, ran_none, ran_more, take_less}
+use Rattle.jobs.proofs.Running.{Ran, ran_none, ran_more}
 use Rattle.jobs.proofs.calls.run.Goals as goal
 
 pub loop-i-init : goal.loop-i-init
@@ -32,11 +32,11 @@ returns g c =
     let i = c.loop-i.i in
     let job = c.loop-i.job in
     let ran = subst (λ f. Ran (g.F.Feeder.motion f) calls old c.loop-i.answers i job) c.new-job.ensures.same c.loop-i.invariant.1 in
-    let end : i ≡ min (length calls) (length old) = omega (arith, length-take c.min-count.result calls) in
+    let end : i ≡ min (length old) (length calls) = omega (arith, length-take c.min-count.result calls) in
     record {
       same = c.loop-i.invariant.0 ∙ c.new-job.ensures.same;
       each = λ k lc la. ran.placed k (omega arith);
       rest = λ k lc. ran.rest k (omega arith);
-      reached = (ran.plan, subst (λ (x : List Call). Reached (g.F.Feeder.motion c.args.feeder) (reverse x) ran.plan job) (take_less calls (length old) i end) ran.reached);
+      reached = (ran.plan, subst (λ (x : List Call). Reached (g.F.Feeder.motion c.args.feeder) (reverse x) ran.plan job) (ap (λ n. take n calls) end ∙ take_min (length old) calls) ran.reached);
       determined = determined;
     }
