@@ -1,4 +1,5 @@
 // Sets of poses or of actions as 32-bit numbers: the bit of weight 2 to the p stands for p.
+// Sets are numbers and no type: public calls take and answer them so, and each of these functions answers every number.
 ghost use Rattle.std.specs.Prelude.{◌≡◌, ◌-◌, ◌^◌, ◌≤◌, nat_lt};
 ghost use Rattle.feeders.specs.Sets.{all_below, has};
 

@@ -24,6 +24,7 @@ pub fn image<F: Feeder>(feeder: &F, set: u32, list: &[u8]) -> Result<u32, Refusa
 }
 
 // The pose to which the whole list brings `pose`.
+// A loop and no fold: the pose that is reached has a name of its own.
 fn carried<F: Feeder>(feeder: &F, pose: u32, list: &[u8]) -> u32
     requires { (pose < (F.Feeder.motion feeder.now).poses) × (T (all_below (F.Feeder.motion feeder.now).actions list.now)) }
     ensures is { result ≡ brings (F.Feeder.motion feeder.now) pose list.now }
@@ -37,6 +38,7 @@ fn carried<F: Feeder>(feeder: &F, pose: u32, list: &[u8]) -> u32
 }
 
 // The poses to which the list brings the poses of the set, each pose carried on its own.
+// A loop and no fold: the set that is gathered has a name of its own.
 fn gather<F: Feeder>(feeder: &F, set: u32, list: &[u8]) -> u32
     requires { T (all_below (F.Feeder.motion feeder.now).actions list.now) }
     ensures { result ≡ image_of (F.Feeder.motion feeder.now) set list.now }

@@ -21,6 +21,7 @@ fn read_gate(fields: &mut Fields, poses: u32) -> Result<Gate, Fault>
 }
 
 // So many gates of a row.
+// A loop of its own: a reader of any items, with a closure for one, would say no more.
 pub(crate) fn read_gates(
     fields: &mut Fields,
     poses: u32,

@@ -9,6 +9,7 @@ use std::test::Fail;
 const SHEET: [u8; 7] = [3, 3, 2, 7, 1, 4, 1];
 
 // The row that refuses the sheet stays as it was.
+// In each kind's own tests: they know their own table.
 fn refuses(rt: &impl Abort, sheet: &[u8], refusal: Refusal, place: usize, reader: Reader) {
     let mut row = GateRow::new();
     assert_eq!(rt;

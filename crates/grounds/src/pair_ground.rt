@@ -23,6 +23,7 @@ impl<'a, F: Feeder> PairGround<'a, F> {
     }
 
     // The node of two poses, in any order; refuses an absent one.
+    // Two numbers and no pair type: callers have them as two poses, in any order.
     pub fn pair_node(&self, p: u32, q: u32) -> Result<u32, Refusal>
         ensures { result ≡ (if nat_lt p (F.Feeder.motion self.now.feeder.now).poses && nat_lt q (F.Feeder.motion self.now.feeder.now).poses then Ok (node_of (F.Feeder.motion self.now.feeder.now).poses p q) else Err NoPose) }
     {
@@ -50,6 +51,7 @@ impl<'a, F: Feeder> Ground for PairGround<'a, F> {
     fn next(&self, node: u32, label: u32) -> Result<u32, Refusal> {
         let n = self.feeder.poses();
         let met = pairs_of(n);
+        // Tested by hand: a question in two lines, which a shared function would only name again.
         if node > met {
             return Err(Refusal::NoPose);
         }

@@ -2,7 +2,7 @@
 use refusals::Refusal;
 
 // One call. Actions, poses and places are any numbers: what is absent is refused.
-#[derive(Clone, Copy)]
+#[derive(Clone, Copy, PartialEq, Eq, Debug)]
 pub enum Call<'a> {
     // The action is barred from now on.
     Bar(u32),

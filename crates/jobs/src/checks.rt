@@ -10,6 +10,7 @@ use feeders::{Feeder, has, image};
 use refusals::Refusal;
 
 // The action as a byte, if the feeder has it and it is permitted; refuses an absent action, then a barred one.
+// The feeder and the set are handed over one by one: the job that holds both has other parts that are written meanwhile.
 pub(crate) fn usable<F: Feeder>(feeder: &F, allowed: u32, action: u32) -> Result<u8, Refusal>
     ensures { result ≡ checked (F.Feeder.motion feeder.now) allowed action }
 {

@@ -7,6 +7,7 @@ mod hold;
 mod perform;
 mod tell;
 
+// Clauses hand over the motion of the feeder: a definition of specs/ has no bound by which to find it.
 // The job owns its feeder until it is finished. No call on it allocates, so no answer depends on memory.
 #[derive(Drop)]
 pub struct Job<F: Feeder> {

@@ -43,6 +43,7 @@ impl<F: Feeder> Feeder for Renumbering<F> {
 
     fn follow(&self, pose: u32, action: u32) -> Result<u32, Refusal> {
         let poses = self.below.poses();
+        // Tested by hand: one question in two lines, which a shared function would only name again.
         if pose >= poses {
             return Err(Refusal::NoPose);
         }

@@ -40,6 +40,7 @@ impl<F: Feeder> Feeder for Series<F> {
     }
 
     fn follow(&self, pose: u32, action: u32) -> Result<u32, Refusal> {
+        // Tested by hand: one question in two lines, which a shared function would only name again.
         if pose >= self.below.poses() {
             return Err(Refusal::NoPose);
         }
@@ -49,6 +50,7 @@ impl<F: Feeder> Feeder for Series<F> {
 }
 
 // Where the entries of the series bring the pose; one that the feeder does not have is passed over.
+// A loop and no fold: the pose that is reached has a name of its own.
 fn perform<F: Feeder>(feeder: &F, pose: u32, series: &[u8]) -> u32
     requires { pose < (F.Feeder.motion feeder.now).poses }
     ensures { result ≡ brings (F.Feeder.motion feeder.now) pose (present (F.Feeder.motion feeder.now).actions series.now) }

@@ -10,7 +10,7 @@ use crate::{Number, read_in};
 use refusals::{Fault, Reader, Refusal};
 
 // A sheet as it is read: all of it, and the end that is not read yet.
-#[derive(Clone, Copy)]
+#[derive(Clone, Copy, PartialEq, Eq, Debug)]
 pub struct Fields<'a> {
     whole: &'a [u8],
     rest: &'a [u8],

@@ -16,7 +16,7 @@ mod fields;
 pub use fields::Fields;
 
 // A number, and the bytes after it.
-#[derive(Clone, Copy)]
+#[derive(Clone, Copy, PartialEq, Eq, Debug)]
 pub struct Number<'a> {
     pub value: u32,
     pub rest: &'a [u8],
@@ -84,6 +84,7 @@ fn joined<'a>(group: u8, high: Number<'a>) -> Result<Number<'a>, Refusal>
 }
 
 // A refusal at its place: bytes that end early are refused at their end, and a bad number at its first byte.
+// Beside the sheet's: each reader tells the place in a way of its own.
 fn fault(whole: &[u8], rest: &[u8], refusal: Refusal) -> Fault
     ensures { result ≡ number_fault whole.now rest.now refusal }
 {

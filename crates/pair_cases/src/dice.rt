@@ -47,12 +47,14 @@ impl Feeder for Dice {
     }
 
     fn follow(&self, pose: u32, action: u32) -> Result<u32, Refusal> {
+        // Tested by hand: two questions in two lines each, which a shared function would only name again.
         if pose >= self.poses {
             return Err(Refusal::NoPose);
         }
         if action >= self.actions {
             return Err(Refusal::NoAction);
         }
+        // One flat array, four entries for a pose: so the motion in specs/ reads it.
         let place = pose * 4 + action;
         Ok(u32::from(self.table[place as usize]) % self.poses)
     }

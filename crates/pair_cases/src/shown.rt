@@ -45,6 +45,7 @@ fn show_moves(rt: &impl Print, dice: &Dice) -> io::Result<()> {
 }
 
 // Prints where the list brings the set.
+// The lines that the example of a customer's own feeder prints too: that one stands by itself.
 fn show_image(rt: &impl Print, dice: &Dice, set: u32, list: &[u8]) -> io::Result<()> {
     match image(dice, set, list) {
         Ok(end) => println!(rt; "{list:?} brings {set:04b} to {end:04b}"),

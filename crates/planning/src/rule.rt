@@ -11,6 +11,7 @@ use refusals::Refusal;
 
 // The plan becomes the one that the pair rule gives from the set with the permitted actions.
 // Refuses a set with an absent pose, and a set that is empty or from which the rule gets stuck; then the plan is as it was.
+// The feeder and the set are handed over one by one: a struct of the two would be made for one call.
 pub fn plan_pairs<F: Feeder>(
     feeder: &F,
     permitted: u32,

@@ -44,6 +44,7 @@ fn play<F: Feeder + Drop>(
 fn run_script(rt: &HostRuntime, feeder: SheetFeeder) -> io::Result<()> {
     let mut buffer = [0u8; SCRIPT_MOST];
     let script = read_front(&mut rt.stdin(), &mut buffer)?;
+    // On the stack: the rows of a trace go out before the next line is served.
     let mut rows = [0u8; TRACE_ROOM];
     let job = play(rt, feeder, script, &mut rows)?;
     let _feeder = job.finish();

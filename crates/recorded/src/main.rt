@@ -32,7 +32,7 @@ fn write_and_show(rt: &HostRuntime, record: Record) -> io::Result<()> {
     match record.write(&mut buffer) {
         Ok(length) => {
             println!(rt; "{length} bytes")?;
-            show(rt, &buffer[0..length])
+            show(rt, &buffer[..length])
         }
         Err(refusal) => print_refusal(rt, refusal),
     }
@@ -108,7 +108,7 @@ fn write_and_show_length(rt: &HostRuntime, list: &[u8], buffer: &mut [u8]) -> io
         list,
     };
     match record.write(buffer) {
-        Ok(length) => show_length(rt, &buffer[0..length]),
+        Ok(length) => show_length(rt, &buffer[..length]),
         Err(refusal) => print_refusal(rt, refusal),
     }
 }
@@ -117,7 +117,7 @@ fn write_and_show_length(rt: &HostRuntime, list: &[u8], buffer: &mut [u8]) -> io
 fn long(rt: &HostRuntime) -> io::Result<()> {
     let list = [0; 16385];
     let mut buffer = [0; 16390];
-    write_and_show_length(rt, &list[0..16384], &mut buffer)?;
+    write_and_show_length(rt, &list[..16384], &mut buffer)?;
     show_length(rt, &buffer[0..16388])?;
     buffer[16388] = 1;
     show_length(rt, &buffer)?;

@@ -20,13 +20,11 @@ impl<'a> Record<'a> {
         ensures format { OneRecord }
         ensures places { FaultPlaces }
     {
-        let [kind, fields @ ..] = bytes else {
-            return Err(fault_at(Refusal::EndsEarly, 0));
-        };
-        if *kind != KIND {
-            return Err(fault_at(Refusal::WrongKind, 0));
+        match bytes {
+            [KIND, fields @ ..] => fields_in(fields),
+            [] => Err(fault_at(Refusal::EndsEarly, 0)),
+            _ => Err(fault_at(Refusal::WrongKind, 0)),
         }
-        fields_in(fields)
     }
 }
 
@@ -94,6 +92,7 @@ fn actions_in(rest: &[u8], actions: u32) -> usize
 }
 
 // A fault of the record reader.
+// Beside the sheet's: each reader tells the place in a way of its own.
 fn fault_at(refusal: Refusal, place: usize) -> Fault
     ensures { result ≡ fault_at refusal place }
 {

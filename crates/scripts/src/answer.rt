@@ -7,6 +7,7 @@ use refusals::Refusal;
 use std::alloc::{AllocError, Global};
 
 // The line of the answer to a request, or to a line of another form: the refusal if there is one, and the length of the plan that is held.
+// A function and no Display: the line is made of three values that no type holds together.
 pub fn answer_line(
     heap: Global,
     request: Option<Request>,

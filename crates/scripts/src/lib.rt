@@ -17,6 +17,7 @@ pub use request::Request;
 use std::alloc::{AllocError, Global};
 
 // The line of a refused sheet.
+// A function and no Display: the line is more than the fault.
 pub fn fault_line(heap: Global, fault: Fault) -> Result<String, AllocError>
     ensures { IfOk result (λ line. string_bytes line ≡ fault_line fault) }
 {
@@ -24,6 +25,7 @@ pub fn fault_line(heap: Global, fault: Fault) -> Result<String, AllocError>
 }
 
 // The line of the planner's answer: the plan's length, or the refusal.
+// A function and no Display: the outcome is of the library's type.
 pub fn plan_line(heap: Global, outcome: Result<usize, Refusal>) -> Result<String, AllocError>
     ensures { IfOk result (λ line. string_bytes line ≡ plan_line outcome) }
 {
@@ -34,6 +36,7 @@ pub fn plan_line(heap: Global, outcome: Result<usize, Refusal>) -> Result<String
 }
 
 // The line of one action of a plan.
+// A function and no Display: an action of a plan is a byte.
 pub fn action_line(heap: Global, action: u8) -> Result<String, AllocError>
     ensures { IfOk result (λ line. string_bytes line ≡ action_line action) }
 {

@@ -20,6 +20,7 @@ pub fn read_request(line: &[u8]) -> Option<Request>
 }
 
 // The request that a letter makes, with a number or alone.
+// The letters stand in Request::letter too: only here does a letter decide whether a number is wanted.
 fn request_by(letter: char, number: Option<u32>) -> Option<Request>
     ensures { result ≡ request_by letter number }
 {
@@ -38,6 +39,7 @@ fn request_by(letter: char, number: Option<u32>) -> Option<Request>
 }
 
 // The number that one to five decimal digits write; None for other bytes.
+// By hand: parse takes a sign too, and the digits would have to be tested first.
 fn number_of(digits: &[u8]) -> Option<u32>
     ensures { result ≡ number_in digits.now }
 {

@@ -3,6 +3,7 @@ ghost use Rattle.std.specs.Prelude.{◌≡◌};
 ghost use Rattle.scripts.specs.Requests.{letter_of};
 
 // The number is a pose, an action or a place, as the request has it.
+// Not the calls of a job: a line can ask for a trace, and cannot hand over a list.
 #[derive(Clone, Copy, PartialEq, Eq, Debug)]
 pub enum Request {
     Bar(u32),

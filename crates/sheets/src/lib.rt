@@ -47,6 +47,7 @@ impl Feeder for SheetFeeder {
 
     ghost valid = { sheet_valid };
 
+    // Three matches: no function hands out a dyn Feeder, by which one match would do.
     fn poses(&self) -> u32 {
         match self {
             SheetFeeder::Squeeze(table) => table.poses(),

@@ -23,10 +23,12 @@ const FEWEST_TICKS: u32 = 2;
 const MOST_TICKS: u32 = 36_000;
 
 // The most steps, and the most turns: what the lists of a table hold.
+// Each sheet names its own limits: that all of them are 32 follows from no rule of formats.
 const MOST: u32 = 32;
 
 impl SqueezeTable {
     // The smallest table: one step and one turn, which moves nothing.
+    // No Default beside it: it would be a second name for this, and nothing asks for it.
     pub fn new() -> SqueezeTable
         ensures { squeeze_of result ≡ record { ticks = 2; steps = (record { begin = 0; rest = 0 }) ∷ []; turns = 0 ∷ [] } }
     {
@@ -60,6 +62,7 @@ impl SqueezeTable {
     }
 
     // Takes the table that the sheet describes. Each table has one sheet, and all other bytes are refused.
+    // Written for each kind of table: a trait would have to name the format in its clauses, and each kind has its own.
     pub fn fill(&mut self, sheet: &[u8]) -> Result<(), Fault>
         ensures reads { Leaves squeeze_of (squeeze_sheet sheet.now) self.old self.new result }
         ensures format { OneSheet Keeps spell_squeeze squeeze_sheet }

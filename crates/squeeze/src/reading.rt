@@ -50,6 +50,7 @@ fn read_step(fields: &mut Fields, ticks: u32, left: u32, steps: &[Step]) -> Resu
 }
 
 // So many steps of a sheet.
+// A loop of its own, as for turns: a step is tested by those before it, and a reader with a closure would say no more.
 pub(crate) fn read_steps(
     fields: &mut Fields,
     ticks: u32,

@@ -6,6 +6,7 @@ use std::process::Abort;
 use std::test::Fail;
 
 // The table that refuses the sheet stays as it was.
+// In each kind's own tests: they know their own table.
 fn refuses(rt: &impl Abort, sheet: &[u8], refusal: Refusal, place: usize, reader: Reader) {
     let mut table = SqueezeTable::new();
     assert_eq!(rt;

@@ -10,7 +10,7 @@ pub(crate) fn write_row(row: &mut [u8], action: Option<u8>, set: u32)
     requires { length row.old ≡ 12 }
     ensures { row.new ≡ row_of action set }
 {
-    row[0..2].copy_from_slice(&mark(action));
+    row[..2].copy_from_slice(&mark(action));
     row[2] = b' ';
     row[3..11].copy_from_slice(&hex_digits(set));
     row[11] = b'\n';

@@ -36,7 +36,7 @@ fn write_rows<F: Feeder>(feeder: &F, set: u32, list: &[u8], buffer: &mut [u8])
     requires room { 12 * (length list.now + 1) ≤ length buffer.old }
     ensures { buffer.new ≡ trace_of (F.Feeder.motion feeder.now) set list.now ++ drop (12 * (length list.now + 1)) buffer.old }
 {
-    write_row(&mut buffer[0..12], None, set);
+    write_row(&mut buffer[..12], None, set);
     let mut here = set;
     for (i, action) in list.iter().enumerate() {
         here = stepped(feeder, here, *action);

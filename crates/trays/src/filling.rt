@@ -16,6 +16,7 @@ pub const KIND: u8 = 2;
 
 impl Tray {
     // The smallest tray: one free cell.
+    // No Default beside it: it would be a second name for this, and nothing asks for it.
     pub fn new() -> Tray
         ensures { grid_of result ≡ record { rows = 1; columns = 1; cells = true ∷ [] } }
     {
@@ -28,6 +29,7 @@ impl Tray {
     }
 
     // Makes this the tray that the sheet describes; a sheet that is refused changes nothing.
+    // Written for each kind of table: a trait would have to name the format in its clauses, and each kind has its own.
     pub fn fill(&mut self, sheet: &[u8]) -> Result<(), Fault>
         ensures reads { Leaves grid_of (tray_sheet sheet.now) self.old self.new result }
         ensures format { OneSheet Keeps spell_tray tray_sheet }

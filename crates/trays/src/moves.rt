@@ -9,11 +9,8 @@ ghost use Rattle.trays.specs.Tray.{free, pose_at, tray_motion, Tilts};
 
 use crate::cell::Cell;
 use crate::direction::Direction;
-use crate::tray::Tray;
+use crate::tray::{LONGEST_SIDE, Tray};
 use refusals::Refusal;
-
-// No slide is longer: a tray has at most 16 rows and columns.
-const LONGEST: u32 = 16;
 
 impl Tray {
     // Which pose follows `pose` when the tray is tilted that way; refuses an absent pose.
@@ -53,7 +50,7 @@ impl Tray {
         requires { free (grid_of self.now) start.row start.column ≡ true }
         ensures { SlidesTo (grid_of self.now) (tilt_of direction) start result }
     {
-        (1..=LONGEST)
+        (1..=LONGEST_SIDE)
             .map_while(|far| self.free_ahead(start, direction, far))
             .last()
             .unwrap_or(start)

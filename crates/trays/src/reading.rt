@@ -6,14 +6,12 @@ ghost use Rattle.trays.specs.Held.{grid_of};
 ghost use Rattle.trays.specs.Reads.{TakesCell};
 ghost use Rattle.trays.specs.Sheet.{cells_left, tray_fields};
 
-use crate::tray::Tray;
+use crate::tray::{LONGEST_SIDE, Tray};
 use numbers::Fields;
 use refusals::{Fault, Refusal};
 
-// The most rows, and the most columns.
-const LONGEST_SIDE: u32 = 16;
-
 // The most free cells: each is a pose.
+// Each sheet names its own limits: that all of them are 32 follows from no rule of formats.
 const MOST_FREE: u32 = 32;
 
 // The byte of a free cell, a dot.
@@ -44,6 +42,7 @@ fn read_cells(mut fields: Fields, rows: u32, columns: u32) -> Result<Tray, Fault
         *cell = read_cell(&mut fields, free)?;
         free += u32::from(*cell);
     }
+    // At least one: that there are not too many is tested at each cell.
     if free < 1 {
         return Err(fields.fault(Refusal::OutsideLimit));
     }

@@ -11,6 +11,7 @@ fn filled(sheet: &[u8]) -> Result<Tray, Fail> {
     Ok(tray)
 }
 
+// In each kind's own tests: they know their own table.
 fn refuses(rt: &impl Abort, sheet: &[u8], refusal: Refusal, place: usize) {
     let mut tray = Tray::new();
     let fault = Fault {

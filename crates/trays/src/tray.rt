@@ -2,8 +2,11 @@
 ghost use Rattle.std.specs.Prelude.{◌≡◌, ◌*◌, ◌≤◌, length, take};
 ghost use Rattle.trays.specs.Tray.{frees};
 
+// The most rows, and the most columns; no slide is longer.
+pub(crate) const LONGEST_SIDE: u32 = 16;
+
 // Rows and columns are 1 to 16. The cells stand row by row, true for a free one; those behind the last row mean nothing.
-// A fixed array with the sizes beside it: a table takes no heap.
+// An array with the sizes beside it, and no list: rows times columns says how many cells count.
 #[derive(Clone, Copy)]
 pub struct Tray {
     pub(crate) rows: u32,

@@ -17,10 +17,12 @@ use refusals::Fault;
 pub const KIND: u8 = 3;
 
 // The most poses, and the most gates, that a row has.
+// Each sheet names its own limits: that all of them are 32 follows from no rule of formats.
 const MOST: u32 = 32;
 
 impl GateRow {
     // One pose, and one gate that turns nothing.
+    // No Default beside it: it would be a second name for this, and nothing asks for it.
     pub fn new() -> GateRow
         ensures { gates_of result ≡ record { poses = 1; gates = idle ∷ [] } }
     {
@@ -42,6 +44,7 @@ impl GateRow {
     }
 
     // Takes the row that a sheet describes; a refused sheet leaves the row as it was.
+    // Written for each kind of table: a trait would have to name the format in its clauses, and each kind has its own.
     pub fn fill(&mut self, sheet: &[u8]) -> Result<(), Fault>
         ensures reads { Leaves gates_of (gate_sheet sheet.now) self.old self.new result }
         ensures format { OneSheet Keeps spell_row gate_sheet }

@@ -29,6 +29,7 @@ impl<F: Feeder> Job<F> {
     }
 
     // The action is barred; all poses are possible again, and the plan is gone.
+    // Bar and allow differ in one call: a function with that call as an argument is longer than both.
     pub fn bar(&mut self, action: u32) -> Answer
         ensures { Performs (F.Feeder.motion self.old.feeder) self.old (Bar action) self.new result }
     {

@@ -10,6 +10,7 @@ impl<F: Feeder> Job<F> {
     pub fn perform(&mut self, call: &Call) -> Answer
         ensures { Performs (F.Feeder.motion self.old.feeder) self.old call.now self.new result }
     {
+        // The one place where a call that is a value becomes a call that is made.
         match call {
             Call::Bar(action) => self.bar(*action),
             Call::Allow(action) => self.allow(*action),

@@ -11,6 +11,7 @@ use refusals::Refusal;
 
 impl RenumberTable {
     // The table that renumbers nothing.
+    // No Default beside it: it would be a second name for this, and nothing asks for it.
     pub fn new() -> RenumberTable
         ensures { Unchanged (numbering_of result) }
     {

@@ -5,6 +5,7 @@ ghost use Rattle.layers.specs.Once.{times as times_of, OnceEach, Fills};
 use std::array;
 
 // The places of a table: as many as a feeder may have poses.
+// A table knows no feeder: the limit of its places is its own.
 const PLACES: usize = 32;
 
 // How many times the number stands in the list.

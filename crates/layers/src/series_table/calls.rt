@@ -15,10 +15,12 @@ const MOST_SERIES: u32 = 16;
 const MOST_ENTRIES: usize = 8;
 
 // The most actions of a feeder: no entry can name another.
+// A table knows no feeder: the limit of its entries is its own.
 const MOST_ACTIONS: u32 = 32;
 
 impl SeriesTable {
     // One series without actions.
+    // No Default beside it: it would be a second name for this, and nothing asks for it.
     pub fn new() -> SeriesTable
         ensures { series_of result ≡ [] ∷ [] }
     {
@@ -60,7 +62,7 @@ impl SeriesTable {
     pub fn resize(&mut self, count: u32) -> Result<(), Refusal>
         ensures { Leaves series_of (resized count) self.old self.new result }
     {
-        if count < 1 || count > MOST_SERIES {
+        if !(1..=MOST_SERIES).contains(&count) {
             return Err(Refusal::OutsideLimit);
         }
         *self = SeriesTable::of(count);

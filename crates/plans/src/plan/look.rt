@@ -7,6 +7,7 @@ use lists::Bounded;
 
 impl Plan {
     // No actions.
+    // No Default beside it: it would be a second name for this, and nothing asks for it.
     pub fn new() -> Plan
         ensures { list_of result ≡ [] }
     {
