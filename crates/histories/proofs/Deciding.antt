@@ -11,11 +11,11 @@ use Rattle.graphs.specs.PairRule.{One}
 use Rattle.graphs.specs.Poses.{pose_graph}
 use Rattle.graphs.proofs.Distances.{distance_not-none, way_distance, way_unique}
 use Rattle.graphs.proofs.PairRules.{pair_laws}
-use Rattle.histories.specs.History.{permits, possible, permitted, Permitted}
+use Rattle.histories.specs.History.{possible, permitted, Permitted}
 use Rattle.histories.specs.Rules.{Plans, Answer, without, Bad, absent, forbidden, later, Rule, Held, bar_no_action, bar_done, allow_no_action, allow_done, shake_done, step_no_action, step_barred, step_done, plan_stuck, plan_done, put_too_long, put_bad, put_apart, put_done, add_no_plan, add_no_action, add_barred, add_too_long, add_done, cut_no_plan, cut_no_place, cut_apart, cut_done, aim_no_plan, aim_no_pose, aim_never, aim_too_long, aim_done, start, call}
 use Rattle.histories.specs.Promise.{Determined}
 use Rattle.histories.specs.declared.call.Call.{Call}
-use Rattle.histories.proofs.Words.{permits_known, permits-free, possible-below}
+use Rattle.histories.proofs.Words.{not_absent, permits-free, possible-below}
 
 -- ---- what cannot be both
 
@@ -33,22 +33,19 @@ bit_one : (d e : ℕ) → 2 ^ d ≡ 2 ^ e → d ≡ e
 bit_one d e p = (T-has_one e d).0 (subst (λ (x : ℕ). T (has x d)) p ((T-has_one d d).1 refl))
 
 module _ (m : Motion) (h : List Call) where
-  not_absent : (a : ℕ) → m.actions ≤ a → T (permits m h a) → ⊥
-  not_absent a g t = not-le_of_lt (permits_known m h a t) g
-
   bad_permitted : {w : List ℕ} {e : Refusal} → Bad m h w e → Permitted m h w → ⊥
-  bad_permitted (absent {a} g) p = not_absent a g p.0
+  bad_permitted (absent {a} g) p = not_absent m h a g p.0
   bad_permitted (forbidden {a} l b) p = permits-free m h a p.0 b
   bad_permitted (later t x) p = bad_permitted x p.1
 
   bad_one : {w : List ℕ} {e f : Refusal} → Bad m h w e → Bad m h w f → e ≡ f
   bad_one (absent g) (absent k) = refl
   bad_one (absent g) (forbidden l b) = absurd (not-le_of_lt l g)
-  bad_one (absent {a} g) (later t x) = absurd (not_absent a g t)
+  bad_one (absent {a} g) (later t x) = absurd (not_absent m h a g t)
   bad_one (forbidden l b) (absent g) = absurd (not-le_of_lt l g)
   bad_one (forbidden l b) (forbidden k c) = refl
   bad_one (forbidden {a} l b) (later t x) = absurd (permits-free m h a t b)
-  bad_one (later {a} t x) (absent g) = absurd (not_absent a g t)
+  bad_one (later {a} t x) (absent g) = absurd (not_absent m h a g t)
   bad_one (later {a} t x) (forbidden l b) = absurd (permits-free m h a t b)
   bad_one (later t x) (later u y) = bad_one x y
 

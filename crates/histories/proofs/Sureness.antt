@@ -11,13 +11,13 @@ use Rattle.histories.specs.Rules.{Plans, Answer, length_of, advanced, without, R
 use Rattle.histories.specs.Promise.{RulesAreSure}
 use Rattle.histories.specs.declared.call.Call.{Call}
 use Rattle.histories.specs.declared.call.Call.TheVariants.{Bar, Allow, Step, Plan, Put, Add, Cut, Aim}
-use Rattle.histories.proofs.Words.{permits_known, permits-free, permitted_all_like, permitted_same, elsewhere, possible_still, possible_elsewhere}
+use Rattle.histories.proofs.Words.{not_absent, permits-free, permitted_all_like, permitted_same, elsewhere, possible_still, possible_elsewhere}
 use Rattle.histories.proofs.Orienting.{advanced_was, one_of_bit, orients_more, orients_step, permitted-without, planned_orients, stuck_orients_none, planned_short, way_ends, way_short, never_ends}
 
 -- ---- answers
 
 ok_err : (l : Option ℕ) (e : Refusal) → ◌≡◌ {A = Answer} (Ok l) (Err e) → ⊥
-ok_err l e p = let z : ◌≡◌ {A = ℕ} 0 1 = cc in omega arith
+ok_err l e p = cc
 
 same_ok : (k l : Option ℕ) → ◌≡◌ {A = Answer} (Ok k) (Ok l) → k ≡ l
 same_ok k l p = cc
@@ -41,9 +41,6 @@ module _ (m : Motion) (ok : Valid m) (h : List Call) where
   still_step : (a : ℕ) → (T (permits m h a) → ⊥) → Still m h (Step a)
   still_step a n = (permitted_same m (Step a ∷ h) h (λ b l. refl), possible_still m ok h a n)
 
-  absent_not : (a : ℕ) → m.actions ≤ a → T (permits m h a) → ⊥
-  absent_not a g t = let l = permits_known m h a t in omega arith
-
   barred-not : (a : ℕ) → T (barred h a) → T (permits m h a) → ⊥
   barred-not a b t = permits-free m h a t b
 
@@ -63,7 +60,7 @@ module _ (m : Motion) (ok : Valid m) where
   rule_orients {h} ih (allow_no_action {a} g) w e = orients_still m ok h (Allow a) w (λ b l. sym (elsewhere m h a false g b l)) (still_allow m ok h a g).1 (ih w e)
   rule_orients ih (allow_done l) w e = absurd (none-some w e)
   rule_orients ih shake_done w e = absurd (none-some w e)
-  rule_orients {h} ih (step_no_action {a} g) w e = orients_still m ok h (Step a) w (λ b l. refl) (still_step m ok h a (absent_not m ok h a g)).1 (ih w e)
+  rule_orients {h} ih (step_no_action {a} g) w e = orients_still m ok h (Step a) w (λ b l. refl) (still_step m ok h a (not_absent m h a g)).1 (ih w e)
   rule_orients {h} ih (step_barred {a} l b) w e = orients_still m ok h (Step a) w (λ b l. refl) (still_step m ok h a (barred-not m ok h a b)).1 (ih w e)
   rule_orients {h} {before} ih (step_done {a} t) w e = orients_step m ok h a w t (ih (a ∷ w) (advanced_was before a w e))
   rule_orients {h} ih (plan_stuck s) w e = orients_still m ok h Plan w (λ b l. refl) refl (ih w e)
@@ -117,7 +114,7 @@ module _ (m : Motion) (ok : Valid m) (h : List Call) (before : Plans) where
     )
       where
         too_long_cannot : ◌≡◌ {A = Answer} (Err PlanTooLong) (Err CannotEndThere) → ⊥
-        too_long_cannot p = let z : ◌≡◌ {A = ℕ} 0 1 = cc in omega arith
+        too_long_cannot p = cc
     aim_ended (aim_done e {w = v} {u} s l i y z) held k b = (
       λ p. absurd (ok_err (Some (length (v ++ u))) CannotEndThere p),
       λ n. absurd (n (v ++ u) (way_ends m ok h q e v l (orients v s) i u y)),
@@ -179,7 +176,7 @@ module _ (m : Motion) (ok : Valid m) (h : List Call) (before : Plans) where
   rule_kept (allow_no_action {a} g) e p = let s = still_allow m ok h a g in (refl, s.0, s.1)
   rule_kept (allow_done k) e p = absurd (ok_err None e p)
   rule_kept shake_done e p = absurd (ok_err None e p)
-  rule_kept (step_no_action {a} g) e p = let s = still_step m ok h a (absent_not m ok h a g) in (refl, s.0, s.1)
+  rule_kept (step_no_action {a} g) e p = let s = still_step m ok h a (not_absent m h a g) in (refl, s.0, s.1)
   rule_kept (step_barred {a} k b) e p = let s = still_step m ok h a (barred-not m ok h a b) in (refl, s.0, s.1)
   rule_kept (step_done {a} t) e p = absurd (ok_err (length_of (advanced before a)) e p)
   rule_kept (plan_stuck s) e p = (refl, permitted_same m (Plan ∷ h) h (λ b l. refl), refl)

@@ -1,5 +1,5 @@
 -- What the words of the guarantee come to: permitted actions as a set, and the possible poses after each call.
-use Rattle.std.proofs.Common.{◌≡◌, ℕ, zero, suc, ◌^◌, ◌<◌, ◌≤◌, Bool, true, false, cond, not, ◌&&◌, T, eqb, ltb, ◌↔◌, List, [], ◌∷◌, ◌++◌, sym, refl, ap, ◌∙◌, subst, inl, inr, arith, ltb→lt, lt→ltb}
+use Rattle.std.proofs.Common.{◌≡◌, ℕ, zero, suc, ◌^◌, ◌<◌, ◌≤◌, Bool, true, false, cond, not, ◌&&◌, T, eqb, ltb, ◌↔◌, List, [], ◌∷◌, ◌++◌, sym, refl, ap, ◌∙◌, subst, inl, inr, not-le_of_lt, arith, ltb→lt, lt→ltb}
 use Rattle.std.proofs.lemmas.Bool.{cases_Bool, cases_lt, cond_both, cond-true, cond-false, ne_eqb, lt-ltb, le-ltb}
 use Rattle.feeders.specs.Motion.{Motion, Valid}
 use Rattle.feeders.specs.Sets.{has, with, all_below}
@@ -62,6 +62,9 @@ set_below-below test n = below-has n (set_below test n) (λ a t. ((T-has-set_bel
 module _ (m : Motion) (h : List Call) where
   pub permits_known : (a : ℕ) → T (permits m h a) → a < m.actions
   permits_known a t = ltb→lt a m.actions ((T_and (ltb a m.actions) (not (barred h a))).0 t).0
+
+  pub not_absent : (a : ℕ) → m.actions ≤ a → T (permits m h a) → ⊥
+  not_absent a g t = not-le_of_lt (permits_known a t) g
 
   pub permits-free : (a : ℕ) → T (permits m h a) → T (barred h a) → ⊥
   permits-free a t = (T_not (barred h a)).0 ((T_and (ltb a m.actions) (not (barred h a))).0 t).1

@@ -1,6 +1,5 @@
 -- How the planner's answers meet what is promised of them.
-use Rattle.std.proofs.Common.{◌≡◌, ℕ, ◌^◌, ◌<◌, ◌≤◌, List, Ok, Err, Result, sym, refl, subst, not-le_of_lt, le_of_eq, le_trans, not-suc-le-zero, arith}
-use Rattle.refusals.specs.declared.Refusal.{Refusal}
+use Rattle.std.proofs.Common.{◌≡◌, ℕ, ◌^◌, ◌<◌, ◌≤◌, List, Ok, Err, sym, refl, subst, not-le_of_lt, le_of_eq, le_trans, not-suc-le-zero}
 use Rattle.refusals.specs.declared.Refusal.TheVariants.{NoPose, CannotOrient}
 use Rattle.feeders.specs.Motion.{Motion, Valid}
 use Rattle.feeders.proofs.Images.{image-below}
@@ -9,13 +8,9 @@ use Rattle.graphs.proofs.Sizes.{members-zero, image-size, usable_below}
 use Rattle.graphs.proofs.PairRules.{pair_laws}
 use Rattle.planning.specs.Planned.{Exact}
 
--- an answer that is a value is no refusal
-not_refused : {U : Type 0} (x : U) (r : Result U Refusal) → r ≡ Ok x → r ≡ Err CannotOrient → ⊥
-not_refused x r e f = let z : ◌≡◌ {A = ℕ} 0 1 = cc in omega arith
-
 module _ {U : Type 0} (m : Motion) (perm s : ℕ) (ok : Valid m) where
   pub exact_planned : (x : U) (w : List ℕ) → s < 2 ^ m.poses → PairRule m perm s w → Exact m perm s (Ok x)
-  exact_planned x w small r u a e = (λ f. absurd (not_refused x (Ok x) refl f), λ f. absurd (f w ((pair_laws m perm ok).orients s w small r)))
+  exact_planned x w small r u a e = (λ f. absurd (cc), λ f. absurd (f w ((pair_laws m perm ok).orients s w small r)))
 
   pub exact_stuck : Stuck m perm s → Exact {U = U} m perm s (Err CannotOrient)
   exact_stuck t u a e = (λ f w o. (pair_laws m perm ok).exact u a (subst (Stuck m perm) e t) w (subst (λ (x : ℕ). Orients m perm x w) e o), λ f. refl)
