@@ -1,6 +1,5 @@
 -- A request that makes a call, which is refused.
 use Rattle.std.proofs.Common.{◌≡◌, ℕ, List, Some, None, Err, IsErrAnd, Option, Result, sym, refl, ap, ◌∙◌, subst}
-use Rattle.std.specs.Result.{result_err, result_unwrap_or}
 use Rattle.std.proofs.lemmas.Result.{err_from_is_err_and}
 use Rattle.refusals.specs.declared.Refusal.{Refusal}
 use Rattle.feeders.specs.Motion.{Motion}
