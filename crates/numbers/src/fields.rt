@@ -1,13 +1,40 @@
 // Fields of a sheet: the sheet reader's faults at their places, and numbers within limits.
 // `whole` is the sheet, and `rest` is the end of it that starts at the field.
-ghost use Rattle.std.specs.Prelude.{◌≡◌, ◌<◌, ◌≤◌, IfOk, IsTrue, nat_lt};
+ghost use Rattle.std.specs.Prelude.{◌≡◌, ◌<◌, ◌≤◌, IfOk, nat_lt};
 ghost use Rattle.numbers.specs.Field.{OfKind, Takes, byte_at, field_at, number_in, read_of, rest_of, whole_of};
-ghost use Rattle.numbers.specs.Grammar.{cut_short, ended, fault_at, place, tested, within};
+ghost use Rattle.numbers.specs.Grammar.{cut_short, ended, fault_at, place, within};
+ghost use Rattle.refusals.specs.Outcomes.{Gives};
 ghost use Rattle.refusals.specs.declared.Reader.TheVariants.{Sheet};
 ghost use Rattle.refusals.specs.declared.Refusal.TheVariants.{OutsideLimit};
 
 use crate::{Number, read_in};
 use refusals::{Fault, Reader, Refusal};
+
+// A number from `low` to `high` at the front of `rest`, with the bytes after it.
+pub fn limited<'a>(whole: &[u8], rest: &'a [u8], low: u32, high: u32) -> Result<Number<'a>, Fault>
+    ensures gives { Gives read_of (field_at (within low high) OutsideLimit whole.now rest.now) result }
+    ensures inside { IfOk result (λ n. (low ≤ n.value) × (n.value ≤ high)) }
+{
+    let number = read_in(whole, rest)?;
+    if (low..=high).contains(&number.value) {
+        Ok(number)
+    } else {
+        Err(Fields::new(whole, rest).fault(Refusal::OutsideLimit))
+    }
+}
+
+// The same for a number below `end`, which may be 2 to the 32nd.
+pub fn below<'a>(whole: &[u8], rest: &'a [u8], end: u64) -> Result<Number<'a>, Fault>
+    ensures gives { Gives read_of (field_at (λ v. nat_lt v end) OutsideLimit whole.now rest.now) result }
+    ensures inside { IfOk result (λ n. n.value < end) }
+{
+    let number = read_in(whole, rest)?;
+    if u64::from(number.value) < end {
+        Ok(number)
+    } else {
+        Err(Fields::new(whole, rest).fault(Refusal::OutsideLimit))
+    }
+}
 
 // A sheet as it is read: all of it, and the end that is not read yet.
 #[derive(Clone, Copy, PartialEq, Eq, Debug)]
@@ -51,8 +78,9 @@ impl<'a> Fields<'a> {
         ensures takes { Takes (field_at (within low high) OutsideLimit) self.old self.new result }
         ensures inside { IfOk result (λ v. (low ≤ v) × (v ≤ high)) }
     {
-        let number = read_in(self.whole, self.rest)?;
-        self.tested((low..=high).contains(&number.value), number)
+        let Number { value, rest } = limited(self.whole, self.rest, low, high)?;
+        self.rest = rest;
+        Ok(value)
     }
 
     // The next number, below `end`, which may be 2 to the 32nd.
@@ -60,20 +88,9 @@ impl<'a> Fields<'a> {
         ensures takes { Takes (field_at (λ v. nat_lt v end) OutsideLimit) self.old self.new result }
         ensures inside { IfOk result (λ v. v < end) }
     {
-        let number = read_in(self.whole, self.rest)?;
-        self.tested(u64::from(number.value) < end, number)
-    }
-
-    // Takes the number that was read here if it is within its limits.
-    fn tested(&mut self, inside: bool, number: Number<'a>) -> Result<u32, Fault>
-        ensures takes { Takes (λ whole rest. tested inside OutsideLimit whole rest (Ok (read_of number.entry))) self.old self.new result }
-        ensures inside { IfOk result (λ v. (IsTrue inside) × (v ≡ number.entry.value)) }
-    {
-        if !inside {
-            return Err(self.fault(Refusal::OutsideLimit));
-        }
-        self.rest = number.rest;
-        Ok(number.value)
+        let Number { value, rest } = below(self.whole, self.rest, end)?;
+        self.rest = rest;
+        Ok(value)
     }
 
     // The next byte.

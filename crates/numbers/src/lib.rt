@@ -13,7 +13,7 @@ use refusals::{Fault, Reader, Refusal};
 
 mod fields;
 
-pub use fields::Fields;
+pub use fields::{Fields, below, limited};
 
 // A number, and the bytes after it.
 #[derive(Clone, Copy, PartialEq, Eq, Debug)]
