@@ -1,8 +1,9 @@
 -- Why a gate row is a feeder: what keeps its rule has a valid motion.
-use Rattle.std.specs.Prelude.{ℕ, ◌+◌, ◌%◌, ◌<◌, slice_index_or}
-use Rattle.std.proofs.Common.{arith}
+use Rattle.std.specs.Prelude.{◌≡◌, ℕ, ◌+◌, ◌%◌, ◌<◌, length, slice_index_or}
+use Rattle.std.proofs.Common.{refl, arith}
 use Rattle.std.proofs.lemmas.Nat.{mod_below}
 use Rattle.std.proofs.lemmas.Bool.{cond_both}
+use Rattle.lists.specs.Held.{list_of}
 use Rattle.feeders.specs.Motion.{Valid}
 use Rattle.feeders.specs.Sets.{has}
 use Rattle.gates.specs.declared.gate.Gate.{Gate}
@@ -30,3 +31,7 @@ row_valid r = gates_valid (gates_of r) r.keeps
 -- every row keeps the rule
 pub held_keeps : (r : GateRow) → Keeps (gates_of r)
 held_keeps r = r.keeps
+
+-- a row has as many gates as it has actions
+pub held_length : (r : GateRow) → length (list_of r.gates) ≡ (gate_motion (gates_of r)).actions
+held_length r = refl
