@@ -1,8 +1,7 @@
 -- The same for the calls that make, take and change the plan.
-use Rattle.std.proofs.Common.{◌≡◌, ℕ, ◌+◌, ◌^◌, ◌<◌, ◌≤◌, T, ◌⊎◌, List, [], ◌∷◌, ◌++◌, length, Some, None, Ok, Err, Option, Result, sym, refl, ap, ◌∙◌, subst, inl, inr, not-le_of_lt, ne_of_gt, arith, length-append, Bor}
-use Rattle.std.specs.Option.{option_map}
+use Rattle.std.proofs.Common.{◌≡◌, ℕ, ◌+◌, ◌^◌, ◌<◌, ◌≤◌, T, ◌⊎◌, List, [], ◌∷◌, ◌++◌, length, Some, None, Ok, Err, Option, Result, true, false, sym, refl, ap, ◌∙◌, subst, inl, inr, not-le_of_lt, ne_of_gt, arith, length-append, Bor}
 use Rattle.std.specs.Result.{result_unwrap_or}
-use Rattle.std.proofs.lemmas.Bool.{cases_lt}
+use Rattle.std.proofs.lemmas.Bool.{cases_Bool, cases_lt, cond-true, cond-false}
 use Rattle.refusals.specs.declared.Refusal.{Refusal}
 use Rattle.refusals.specs.declared.Refusal.TheVariants.{NoPose, NoAction, Barred, NoPlan, NoPlace, PlanTooLong, Apart, CannotOrient, CannotEndThere}
 use Rattle.feeders.specs.Motion.{Motion, Valid}
@@ -15,7 +14,6 @@ use Rattle.graphs.proofs.Sizes.{members-zero}
 use Rattle.plans.specs.Calls.{put, pushed}
 use Rattle.plans.specs.Calls as store
 use Rattle.plans.specs.Held.{list_of}
-use Rattle.plans.specs.declared.plan.Plan as store_plan
 use Rattle.plans.proofs.Fitting.{length-list_of_le}
 use Rattle.planning.specs.Planned.{Refused}
 use Rattle.planning.specs.Aimed.{AimRefused, no_pose, never, too_long}
@@ -66,13 +64,22 @@ abbrev pub EndsIn : {F : Type 0} → Motion → Job F → Option ℕ → Type 0
 EndsIn m j r = Tells m j (λ h plan. EndPose m h plan r)
 
 -- the plan by what lies in the job
-pub plan_is : {F : Type 0} (j : Job F) (p : Option store_plan.Plan) → j.plan ≡ p → plan_of j ≡ option_map list_of p
-plan_is j p e = ap (option_map list_of) e
+module _ {F : Type 0} (j : Job F) where
+  pub plan_held : j.held ≡ true → plan_of j ≡ Some (list_of j.plan)
+  plan_held e = cond-true j.held (Some (list_of j.plan)) None e
 
--- a plan that is held has at most 16,384 actions
-pub held_short : (p : Option store_plan.Plan) (w : List ℕ) → option_map list_of p ≡ Some w → length w ≤ 16384
-held_short None w e = absurd (cc)
-held_short (Some p) w e = let same : w ≡ list_of p = cc in rw same (length-list_of_le p)
+  pub plan_gone : j.held ≡ false → plan_of j ≡ None
+  plan_gone e = cond-false j.held (Some (list_of j.plan)) None e
+
+  pub plan_list : (w : List ℕ) → plan_of j ≡ Some w → (j.held ≡ true) × (w ≡ list_of j.plan)
+  plan_list w p = elim (cases_Bool j.held) [
+    | inl e ↦ let known = plan_held e in (e, cc)
+    | inr e ↦ let known = plan_gone e in absurd (cc)
+  ]
+
+  -- a plan that is held has at most 16,384 actions
+  pub held_short : (w : List ℕ) → plan_of j ≡ Some w → length w ≤ 16384
+  held_short w p = rw (plan_list w p).1 (length-list_of_le j.plan)
 
 -- the possible poses are not none
 not-empty : (m : Motion) → Valid m → (h : List Call) → possible m h ≡ 0 → ⊥
@@ -80,10 +87,11 @@ not-empty m ok h e = ne_of_gt (possible_some m ok h) (ap size_of e ∙ members-z
 
 module _ {F : Type 0} (m : Motion) (ok : Valid m) where
   -- an accepted call that leaves the words as they are, and the list w held
-  held_performed : (j k : Job F) (c : Call) (w : List ℕ) (l : Option ℕ) → ((h : List Call) (b : ℕ) → barred h b ≡ barred (c ∷ h) b) → ((h : List Call) → steps m h ≡ steps m (c ∷ h)) → k.feeder ≡ j.feeder → k.allowed ≡ j.allowed → k.poses ≡ j.poses → plan_of k ≡ Some w → l ≡ Some (length w) → ((h : List Call) (before : Plans) → Reached m h before j → Rule m h before c (Some w) (Ok (Some (length w)))) → Performs m j c k (Ok l)
-  held_performed j k c w l bars moves f p q holds n row =
+  held_performed : (j k : Job F) (c : Call) (w : List ℕ) (l : Option ℕ) → ((h : List Call) (b : ℕ) → barred h b ≡ barred (c ∷ h) b) → ((h : List Call) → steps m h ≡ steps m (c ∷ h)) → k.feeder ≡ j.feeder → k.allowed ≡ j.allowed → k.poses ≡ j.poses → l ≡ Some (length w) → ((h : List Call) (before : Plans) → Reached m h before j → (plan_of k ≡ Some w) × Rule m h before c (Some w) (Ok (Some (length w)))) → Performs m j c k (Ok l)
+  held_performed j k c w l bars moves f p q n row =
       rw n (performed m ok j k c (Some (length w)) f (λ h before R.
-      (Some w, row h before R, p ∙ R.allowed_as ∙ permitted_same m h (c ∷ h) (λ b _. bars h b), q ∙ R.poses_as ∙ ap (image m (every m)) (moves h), holds)))
+      let r = row h before R in
+      (Some w, r.1, p ∙ R.allowed_as ∙ permitted_same m h (c ∷ h) (λ b _. bars h b), q ∙ R.poses_as ∙ ap (image m (every m)) (moves h), r.0)))
 
   -- ---- plan
 
@@ -97,8 +105,8 @@ module _ {F : Type 0} (m : Motion) (ok : Valid m) where
 
   pub plan_performed : (j k : Job F) (w : List ℕ) (l : Option ℕ) → PairRule m j.allowed j.poses w → k.feeder ≡ j.feeder → k.allowed ≡ j.allowed → k.poses ≡ j.poses → plan_of k ≡ Some w → l ≡ Some (length w) → Performs m j Plan k (Ok l)
   plan_performed j k w l rule f p q holds n =
-      held_performed j k Plan w l (λ h b. refl) (λ h. refl) f p q holds n (λ h before R.
-      plan_done (rw (R.allowed_as, R.poses_as) at rule))
+      held_performed j k Plan w l (λ h b. refl) (λ h. refl) f p q n (λ h before R.
+      (holds, plan_done (rw (R.allowed_as, R.poses_as) at rule)))
 
   -- ---- put
 
@@ -110,29 +118,27 @@ module _ {F : Type 0} (m : Motion) (ok : Valid m) where
   reached_image j h before R w p =
       brought_image m j.poses w (poses_below m ok j h before R) (permitted_known m h w p) ∙ ap (λ (s : ℕ). image m s w) R.poses_as
 
-  pub put_long : (j : Job F) (b : Bor (List ℕ)) (e : Refusal) → put b.now ≡ Err e → Performs m j (Put b) j (Err e)
-  put_long j b e p =
-      let r = stored_err b.now e p in
-      rw r.0 (refused m ok j (Put b) PlanTooLong (λ h before R. put_too_long r.1))
+  pub put_long : (j : Job F) (b : Bor (List ℕ)) → 16384 < length b.now → Performs m j (Put b) j (Err PlanTooLong)
+  put_long j b long = refused m ok j (Put b) PlanTooLong (λ h before R. put_too_long long)
 
-  module _ (j : Job F) (b : Bor (List ℕ)) (held : List ℕ) (stored : put b.now ≡ Ok held) where
+  module _ (j : Job F) (b : Bor (List ℕ)) (room : length b.now ≤ 16384) where
     pub put_refused : (e : Refusal) → first_bad m j.allowed b.now ≡ Some e → Performs m j (Put b) j (Err e)
     put_refused e p =
-        refused m ok j (Put b) e (λ h before R. put_bad (stored_ok b.now held stored).1 (bad_first m ok h b.now e (ap (λ (x : ℕ). first_bad m x b.now) (sym R.allowed_as) ∙ p)))
+        refused m ok j (Put b) e (λ h before R. put_bad room (bad_first m ok h b.now e (ap (λ (x : ℕ). first_bad m x b.now) (sym R.allowed_as) ∙ p)))
 
     pub put_parts : (o : Option ℕ) → first_bad m j.allowed b.now ≡ None → OnlyPose (result_unwrap_or (imaged m j.poses b.now) 0) o → o ≡ None → Performs m j (Put b) j (Err Apart)
     put_parts o p only none =
         refused m ok j (Put b) Apart (λ h before R. let good = list_good j h before R b.now p in
-        put_apart (stored_ok b.now held stored).1 good (λ one. subst (OnlyPose (result_unwrap_or (imaged m j.poses b.now) 0)) none only (subst One (sym (reached_image j h before R b.now good)) one)))
+        put_apart room good (λ one. subst (OnlyPose (result_unwrap_or (imaged m j.poses b.now) 0)) none only (subst One (sym (reached_image j h before R b.now good)) one)))
 
-    pub put-performed : (k : Job F) (o : Option ℕ) (e : ℕ) (l : Option ℕ) → first_bad m j.allowed b.now ≡ None → OnlyPose (result_unwrap_or (imaged m j.poses b.now) 0) o → o ≡ Some e → k.feeder ≡ j.feeder → k.allowed ≡ j.allowed → k.poses ≡ j.poses → plan_of k ≡ Some held → l ≡ Some (length held) → Performs m j (Put b) k (Ok l)
-    put-performed k o e l p only some f x y holds n =
-        let s = stored_ok b.now held stored in
+    pub put-performed : (k : Job F) (o : Option ℕ) (e : ℕ) (l : Option ℕ) → first_bad m j.allowed b.now ≡ None → OnlyPose (result_unwrap_or (imaged m j.poses b.now) 0) o → o ≡ Some e → k.feeder ≡ j.feeder → k.allowed ≡ j.allowed → k.poses ≡ j.poses → k.held ≡ true → put b.now ≡ Ok (list_of k.plan) → l ≡ Some (length (list_of k.plan)) → Performs m j (Put b) k (Ok l)
+    put-performed k o e l p only some f x y held stored n =
+        let s = stored_ok b.now (list_of k.plan) stored in
         let one = only_one (result_unwrap_or (imaged m j.poses b.now) 0) e o some only in
-        held_performed j k (Put b) b.now l (λ h b. refl) (λ h. refl) f x y (holds ∙ ap Some s.0) (n ∙ ap (λ (w : List ℕ). Some (length w)) s.0) (λ h before R. let good = list_good j h before R b.now p in
-        put_done s.1 (good, subst One (reached_image j h before R b.now good) one))
+        held_performed j k (Put b) b.now l (λ h b. refl) (λ h. refl) f x y (n ∙ ap (λ (w : List ℕ). Some (length w)) s.0) (λ h before R. let good = list_good j h before R b.now p in
+        (plan_held k held ∙ ap Some s.0, put_done room (good, subst One (reached_image j h before R b.now good) one)))
 
-  -- ---- add, cut and aim: where no plan is held, and where the list w is held
+  -- ---- add and cut: where no plan is held, and where the list w is held
 
   module _ (j : Job F) (gone : plan_of j ≡ None) where
     pub add_none : (a : ℕ) → Performs m j (Add a) j (Err NoPlan)
@@ -158,12 +164,12 @@ module _ {F : Type 0} (m : Motion) (ok : Valid m) where
         let full : 16384 ≤ length w = omega (arith, r.1, length-append w (a ∷ [])) in
         rw r.0 (refused m ok j (Add a) PlanTooLong (λ h before R. add_too_long (was h before R).0 (allowed_permits m ok j h before R a t) full))
 
-    pub add-performed : (k : Job F) (a : ℕ) (l : Option ℕ) (v : List ℕ) → T (has j.allowed a) → pushed w a ≡ Ok v → k.feeder ≡ j.feeder → k.allowed ≡ j.allowed → k.poses ≡ j.poses → plan_of k ≡ Some v → l ≡ Some (length v) → Performs m j (Add a) k (Ok l)
-    add-performed k a l v t p f x y holds n =
-        let r = stored_ok (w ++ (a ∷ [])) v p in
+    pub add-performed : (k : Job F) (a : ℕ) (l : Option ℕ) → T (has j.allowed a) → pushed w a ≡ Ok (list_of k.plan) → k.feeder ≡ j.feeder → k.allowed ≡ j.allowed → k.poses ≡ j.poses → k.held ≡ true → l ≡ Some (length (list_of k.plan)) → Performs m j (Add a) k (Ok l)
+    add-performed k a l t p f x y counts n =
+        let r = stored_ok (w ++ (a ∷ [])) (list_of k.plan) p in
         let room : length w < 16384 = omega (arith, r.1, length-append w (a ∷ [])) in
-        held_performed j k (Add a) (w ++ (a ∷ [])) l (λ h b. refl) (λ h. refl) f x y (holds ∙ ap Some r.0) (n ∙ ap (λ (u : List ℕ). Some (length u)) r.0) (λ h before R.
-        add_done (was h before R).0 (allowed_permits m ok j h before R a t) room)
+        held_performed j k (Add a) (w ++ (a ∷ [])) l (λ h b. refl) (λ h. refl) f x y (n ∙ ap (λ (u : List ℕ). Some (length u)) r.0) (λ h before R.
+        (plan_held k counts ∙ ap Some r.0, add_done (was h before R).0 (allowed_permits m ok j h before R a t) room))
 
     pub cut_refused : (n : ℕ) (e : Refusal) → store.without w n ≡ Err e → Performs m j (Cut n) j (Err e)
     cut_refused n e p =
@@ -182,12 +188,12 @@ module _ {F : Type 0} (m : Motion) (ok : Valid m) where
           refused m ok j (Cut n) Apart (λ h before R. cut_apart (was h before R).0 (removed_ok w rest n removed).1
           (λ one. subst (OnlyPose (result_unwrap_or (imaged m j.poses rest) 0)) none only (subst One (sym (rest-image h before R)) one)))
 
-      pub cut_performed : (k : Job F) (o : Option ℕ) (e : ℕ) (l : Option ℕ) → OnlyPose (result_unwrap_or (imaged m j.poses rest) 0) o → o ≡ Some e → k.feeder ≡ j.feeder → k.allowed ≡ j.allowed → k.poses ≡ j.poses → plan_of k ≡ Some rest → l ≡ Some (length rest) → Performs m j (Cut n) k (Ok l)
-      cut_performed k o e l only some f x y holds s =
+      pub cut_performed : (k : Job F) (o : Option ℕ) (e : ℕ) (l : Option ℕ) → OnlyPose (result_unwrap_or (imaged m j.poses rest) 0) o → o ≡ Some e → k.feeder ≡ j.feeder → k.allowed ≡ j.allowed → k.poses ≡ j.poses → k.held ≡ true → list_of k.plan ≡ rest → l ≡ Some (length rest) → Performs m j (Cut n) k (Ok l)
+      cut_performed k o e l only some f x y counts left s =
           let r = removed_ok w rest n removed in
           let one = only_one (result_unwrap_or (imaged m j.poses rest) 0) e o some only in
-          held_performed j k (Cut n) (without w n) l (λ h b. refl) (λ h. refl) f x y (holds ∙ ap Some r.0) (s ∙ ap (λ (u : List ℕ). Some (length u)) r.0) (λ h before R.
-          cut_done (was h before R).0 r.1 (subst One (rest-image h before R) one))
+          held_performed j k (Cut n) (without w n) l (λ h b. refl) (λ h. refl) f x y (s ∙ ap (λ (u : List ℕ). Some (length u)) r.0) (λ h before R.
+          (plan_held k counts ∙ ap Some (left ∙ r.0), cut_done (was h before R).0 r.1 (subst One (rest-image h before R) one)))
 
     -- the end pose is that of the plan
     pub ends_in : (r : Option ℕ) → OnlyPose (result_unwrap_or (imaged m j.poses w) 0) r → EndsIn m j r
@@ -205,27 +211,42 @@ module _ {F : Type 0} (m : Motion) (ok : Valid m) where
           let same : r.0 ≡ e = cc in
           r.2 ∙ ap (λ (x : ℕ). 2 ^ x) same
 
-      end_there : (q : ℕ) → q < m.poses → (h : List Call) (before : Plans) → Reached m h before j → e < m.poses
-      end_there q l h before R = end_below m ok h q e w l (was h before R).1 (end_known h before R)
+  -- ---- aim
 
-      pub aim_refused : (q : ℕ) {x : Refusal} → AimRefused m j.allowed e q w x → Performs m j (Aim q) j (Err x)
-      aim_refused q (no_pose (inl g)) =
-          refused m ok j (Aim q) NoPose (λ h before R. aim_no_pose (was h before R).0 g)
-      aim_refused q (no_pose (inr g)) =
-          refused m ok j (Aim q) NoPose (λ h before R. elim (cases_lt q m.poses) [
-            | inl l ↦ absurd (not-le_of_lt (end_there q l h before R) g)
-            | inr k ↦ aim_no_pose (was h before R).0 k
-          ])
-      aim_refused q (never l k none) =
-          refused m ok j (Aim q) CannotEndThere (λ h before R. aim_never e (was h before R).0 l (end_known h before R) (rw R.allowed_as at none))
-      aim_refused q (too_long {w = u} l k way long) =
-          refused m ok j (Aim q) PlanTooLong (λ h before R. aim_too_long e (was h before R).0 l (end_known h before R) (rw R.allowed_as at way) long)
+  module _ (j : Job F) (e : ℕ) (ends : EndsIn m j (Some e)) where
+    -- a job whose end pose is told holds a plan
+    ends_held : (h : List Call) (before : Plans) → Reached m h before j → j.held ≡ true
+    ends_held h None R = let none = ends h None R in absurd (cc)
+    ends_held h (Some w) R = (plan_list j w R.plan_as).0
 
-      pub aim_performed : (k : Job F) (q : ℕ) (l : Option ℕ) (u v : List ℕ) → q < m.poses → Way (pose_graph m q) j.allowed e u → v ≡ w ++ u → length v ≤ 16384 → k.feeder ≡ j.feeder → k.allowed ≡ j.allowed → k.poses ≡ j.poses → plan_of k ≡ Some v → l ≡ Some (length v) → Performs m j (Aim q) k (Ok l)
-      aim_performed k q l u v there way is room f x y holds n =
-          let fits : length w + length u ≤ 16384 = omega (arith, room, ap length is, length-append w u) in
-          held_performed j k (Aim q) (w ++ u) l (λ h b. refl) (λ h. refl) f x y (holds ∙ ap Some is) (n ∙ ap (λ (t : List ℕ). Some (length t)) is) (λ h before R.
-          aim_done e (was h before R).0 there (end_known h before R) (rw R.allowed_as at way) fits)
+    aimed_at : (h : List Call) (before : Plans) → Reached m h before j → (before ≡ Some (list_of j.plan)) × Orients m h (list_of j.plan) × (image m (possible m h) (list_of j.plan) ≡ 2 ^ e)
+    aimed_at h before R =
+        let held = plan_held j (ends_held h before R) in
+        let p = was j (list_of j.plan) held h before R in
+        (p.0, p.1, end_known j (list_of j.plan) held e ends h before R)
+
+    end_there : (q : ℕ) → q < m.poses → (h : List Call) (before : Plans) → Reached m h before j → e < m.poses
+    end_there q l h before R = let r = aimed_at h before R in end_below m ok h q e (list_of j.plan) l r.1 r.2
+
+    pub aim_refused : (q : ℕ) {x : Refusal} → AimRefused m j.allowed e q (list_of j.plan) x → Performs m j (Aim q) j (Err x)
+    aim_refused q (no_pose (inl g)) =
+        refused m ok j (Aim q) NoPose (λ h before R. aim_no_pose (aimed_at h before R).0 g)
+    aim_refused q (no_pose (inr g)) =
+        refused m ok j (Aim q) NoPose (λ h before R. elim (cases_lt q m.poses) [
+          | inl l ↦ absurd (not-le_of_lt (end_there q l h before R) g)
+          | inr k ↦ aim_no_pose (aimed_at h before R).0 k
+        ])
+    aim_refused q (never l k none) =
+        refused m ok j (Aim q) CannotEndThere (λ h before R. let r = aimed_at h before R in aim_never e r.0 l r.2 (rw R.allowed_as at none))
+    aim_refused q (too_long {w = u} l k way long) =
+        refused m ok j (Aim q) PlanTooLong (λ h before R. let r = aimed_at h before R in aim_too_long e r.0 l r.2 (rw R.allowed_as at way) long)
+
+    pub aim_performed : (k : Job F) (q : ℕ) (l : Option ℕ) (u : List ℕ) → q < m.poses → Way (pose_graph m q) j.allowed e u → list_of k.plan ≡ list_of j.plan ++ u → k.feeder ≡ j.feeder → k.allowed ≡ j.allowed → k.poses ≡ j.poses → k.held ≡ j.held → l ≡ Some (length (list_of k.plan)) → Performs m j (Aim q) k (Ok l)
+    aim_performed k q l u there way is f x y same n =
+        let w = list_of j.plan in
+        let fits : length w + length u ≤ 16384 = omega (arith, length-list_of_le k.plan, ap length is, length-append w u) in
+        held_performed j k (Aim q) (w ++ u) l (λ h b. refl) (λ h. refl) f x y (n ∙ ap (λ (t : List ℕ). Some (length t)) is) (λ h before R. let r = aimed_at h before R in
+        (plan_held k (same ∙ ends_held h before R) ∙ ap Some is, aim_done e r.0 there r.2 (rw R.allowed_as at way) fits))
 
   -- a job whose end pose is not told holds no plan
   pub no_end : (j : Job F) → EndsIn m j None → (h : List Call) (before : Plans) → Reached m h before j → before ≡ None

@@ -101,7 +101,7 @@ module _ {F : Type 0} (m : Motion) (ok : Valid m) where
   }
 
   -- a refused call that hands on, by a `?`, why another call was refused
-  pub handed_on : (j : Job F) (c : Call) (plan : Option Plan) (r : Answer) (e : Refusal) → IsErrAnd r (λ x. x ≡ e) → plan ≡ j.plan → Performs m j c j (Err e) → Performs m j c (record { feeder = j.feeder; allowed = j.allowed; poses = j.poses; plan = plan }) r
+  pub handed_on : (j : Job F) (c : Call) (plan : Plan) (r : Answer) (e : Refusal) → IsErrAnd r (λ x. x ≡ e) → plan ≡ j.plan → Performs m j c j (Err e) → Performs m j c (record { feeder = j.feeder; allowed = j.allowed; poses = j.poses; plan = plan; held = j.held }) r
   handed_on j c plan r e handed same done =
       let p = err_from_is_err_and r handed in
       rw (p.1, p.2, same) done

@@ -62,7 +62,7 @@ module _ {F : Type 0} (m : Motion) (ok : Valid m) (j : Job F) (w : List ℕ) (he
         end_there = end_below m ok h 0 e w ok.some_pose p.1 ends-there;
         all_there = permitted_known m h w p.1.0;
       }) in
-      subst (Writes m h before after r) (sym p.0) (e, ends-there, recorded c (true_of_T (fits c) inside) (held_short j.plan w held) before after r wrote)
+      subst (Writes m h before after r) (sym p.0) (e, ends-there, recorded c (true_of_T (fits c) inside) (held_short j w held) before after r wrote)
 
   -- ---- the trace
 

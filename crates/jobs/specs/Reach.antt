@@ -1,5 +1,5 @@
 -- Which jobs the calls can make, and what a call on such a job does.
-use Rattle.std.specs.Prelude.{◌≡◌, List, ◌∷◌, Ok, Err, option_map}
+use Rattle.std.specs.Prelude.{◌≡◌, cond, List, ◌∷◌, Some, None, Ok, Err}
 use Rattle.feeders.specs.Motion.{Motion}
 use Rattle.plans.specs.Held.{list_of}
 use Rattle.histories.specs.History.{permitted, possible}
@@ -10,7 +10,7 @@ use Rattle.jobs.specs.declared.job.Job.{Job}
 
 -- the plan that a job holds
 abbrev pub plan_of : {F : Type 0} → Job F → Plans
-plan_of j = option_map list_of j.plan
+plan_of j = cond j.held (Some (list_of j.plan)) None
 
 -- The calls h, made on a new job over a feeder with the motion m, lead to the job j, which holds `plan`:
 -- what the job stores is what the words of the guarantee make of the calls.

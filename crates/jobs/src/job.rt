@@ -16,6 +16,7 @@ pub struct Job<F: Feeder> {
     allowed: u32,
     // the set of the possible poses
     poses: u32,
-    // the plan that is held, if one is
-    plan: Option<Plan>,
+    plan: Plan,
+    // Whether the plan counts. A flag beside the plan, and no Option: None and Some of 16 KB are written whole.
+    held: bool,
 }

@@ -10,6 +10,7 @@ use crate::job::Job;
 use crate::sets::{with_number, without_number};
 use feeders::Feeder;
 use histories::Answer;
+use plans::Plan;
 use refusals::Refusal;
 
 impl<F: Feeder> Job<F> {
@@ -24,7 +25,8 @@ impl<F: Feeder> Job<F> {
             feeder,
             allowed,
             poses,
-            plan: None,
+            plan: Plan::new(),
+            held: false,
         }
     }
 
@@ -79,7 +81,7 @@ impl<F: Feeder> Job<F> {
         ensures plan { plan_of self.new ≡ None }
     {
         self.poses = feeders::every(self.feeder.poses());
-        self.plan = None;
+        self.held = false;
     }
 
     // What a step leaves of the plan.
@@ -89,9 +91,9 @@ impl<F: Feeder> Job<F> {
         ensures poses { self.new.poses ≡ self.old.poses }
         ensures plan { plan_of self.new ≡ advanced (plan_of self.old) action }
     {
-        match &mut self.plan {
-            Some(plan) if plan.as_slice().starts_with(&[action]) => plan.remove(0).unwrap(),
-            _ => self.plan = None,
+        self.held = self.held && self.plan.as_slice().starts_with(&[action]);
+        if self.held {
+            self.plan.remove(0).unwrap();
         }
     }
 }

@@ -1,6 +1,7 @@
 // What a job tells of itself. None of these calls changes it.
-ghost use Rattle.std.specs.Prelude.{◌≡◌, ◌+◌, ◌*◌, ◌≤◌, length, IfOk};
+ghost use Rattle.std.specs.Prelude.{◌≡◌, ◌+◌, ◌*◌, ◌≤◌, length, option_map, IfOk};
 ghost use Rattle.std.specs.Option.{option_copied};
+ghost use Rattle.plans.specs.Held.{list_of};
 ghost use Rattle.histories.specs.History.{permitted as permitted_set, possible as possible_set};
 ghost use Rattle.histories.specs.Rules.{length_of};
 ghost use Rattle.jobs.specs.Reach.{plan_of};
@@ -41,7 +42,7 @@ impl<F: Feeder> Job<F> {
         ensures stored { result ≡ length_of (plan_of self.now) }
         ensures told { Tells (F.Feeder.motion self.now.feeder) self.now (λ h plan. result ≡ length_of plan) }
     {
-        self.plan.as_ref().map(Plan::len)
+        self.held_plan().map(Plan::len)
     }
 
     // The actions of the plan, if one is held.
@@ -49,7 +50,14 @@ impl<F: Feeder> Job<F> {
         ensures stored { option_copied result ≡ plan_of self.now }
         ensures told { Tells (F.Feeder.motion self.now.feeder) self.now (λ h plan. Actions plan result) }
     {
-        self.plan.as_ref().map(Plan::as_slice)
+        self.held_plan().map(Plan::as_slice)
+    }
+
+    // The plan, if one is held.
+    fn held_plan(&self) -> Option<&Plan>
+        ensures { option_map list_of (option_copied result) ≡ plan_of self.now }
+    {
+        self.held.then_some(&self.plan)
     }
 
     // The pose in which the plan ends, if one is held.

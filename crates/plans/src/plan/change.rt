@@ -5,7 +5,7 @@ ghost use Rattle.plans.specs.Held.{list_of};
 ghost use Rattle.refusals.specs.Outcomes.{Leaves};
 ghost use Rattle.refusals.specs.declared.Refusal.TheVariants.{PlanTooLong};
 
-use crate::plan::Plan;
+use crate::plan::{Plan, ROOM};
 use lists::Full;
 use refusals::Refusal;
 
@@ -35,10 +35,12 @@ impl Plan {
     pub fn replace(&mut self, list: &[u8]) -> Result<(), Refusal>
         ensures { Leaves list_of (put list.now) self.old self.new result }
     {
-        let mut plan = Plan::new();
-        plan.append(list)?;
-        *self = plan;
-        Ok(())
+        // Tested first and filled in place: a second plan, put in place of this one, is written and copied with all its room.
+        if list.len() > ROOM {
+            return Err(Refusal::PlanTooLong);
+        }
+        self.clear();
+        self.append(list)
     }
 
     // Takes out the action at a place, counted from 0.

@@ -1,9 +1,7 @@
-use Rattle.std.proofs.Common.{Some, sym, refl, ap, ◌∙◌, subst}
-use Rattle.plans.specs.Held.{list_of}
-use Rattle.plans.proofs.Fitting.{length-list_of_le}
+use Rattle.std.proofs.Common.{Some, refl, ap, subst}
 use Rattle.histories.specs.declared.call.Call.TheVariants.{Aim}
 use Rattle.jobs.proofs.Making.{handed_on, missing}
-use Rattle.jobs.proofs.Holding.{EndsIn, plan_is, aim_none, aim_refused, aim_performed}
+use Rattle.jobs.proofs.Holding.{EndsIn, aim_none, aim_refused, aim_performed}
 use Rattle.jobs.proofs.job.Job.aim.Goals as goal
 
 pub returns-in_err-end : goal.returns-in_err-end
@@ -20,7 +18,7 @@ returns-in_err-append_way_to g c =
     let ok = g.F.Feeder.valid j.feeder in
     let ends = subst (EndsIn m j) c.in_ok-end.ensures.ok_part c.end_pose.ensures in
     let told = c.in_err-append_way_to.ensures.aimed in
-    handed_on m ok j (Aim c.args.pose) _ _ _ c.from_residual-in_err-append_way_to.ensures.1 (ap Some told.1 ∙ sym c.in-Some.is) (aim_refused m ok j (list_of c.in-Some.plan) (plan_is j _ c.in-Some.is) c.in_ok-end.end ends c.args.pose told.0)
+    handed_on m ok j (Aim c.args.pose) _ _ _ c.from_residual-in_err-append_way_to.ensures.1 told.1 (aim_refused m ok j c.in_ok-end.end ends c.args.pose told.0)
 
 pub returns : goal.returns
 returns g c =
@@ -28,4 +26,4 @@ returns g c =
     let m = g.F.Feeder.motion j.feeder in
     let ends = subst (EndsIn m j) c.in_ok-end.ensures.ok_part c.end_pose.ensures in
     let told = c.in_ok-append_way_to.ensures.aimed in
-    aim_performed m (g.F.Feeder.valid j.feeder) j (list_of c.in-Some.plan) (plan_is j _ c.in-Some.is) c.in_ok-end.end ends _ c.args.pose _ told.2.0 (list_of c.append_way_to.new.plan) told.0 told.2.1 told.2.2 (length-list_of_le c.append_way_to.new.plan) refl refl refl refl (ap Some c.len.ensures.counts)
+    aim_performed m (g.F.Feeder.valid j.feeder) j c.in_ok-end.end ends _ c.args.pose _ told.2.0 told.0 told.2.1 told.2.2 refl refl refl refl (ap Some c.len.ensures.counts)
