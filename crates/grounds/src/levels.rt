@@ -6,7 +6,6 @@ ghost use Rattle.grounds.specs.Level.{Level, LeadsTo, LabelFound, NextIf, Swept,
 
 use crate::ground::Ground;
 use feeders::has;
-use std::array;
 
 // How many nodes a ground has at most.
 const NODES: usize = 4096;
@@ -39,11 +38,16 @@ impl<'g, G: Ground> Levels<'g, G> {
         ensures by { result.permitted ≡ permitted }
         ensures level { Level (G.Ground.graph ground.now) permitted 0 result.table }
     {
-        Levels {
+        let mut levels = Levels {
             ground,
             permitted,
-            table: array::from_fn(|node| first_entry(ground, node as u32)),
+            table: [NONE; NODES],
+        };
+        // The ground's own nodes alone are asked: of all places of the table it took most of the search.
+        for node in 0..ground.nodes() {
+            levels.table[node as usize] = first_entry(ground, node);
         }
+        levels
     }
 
     // The distance of the node, if it is found.
