@@ -1,8 +1,6 @@
 -- What a table that passes says of a node: its distance, and the first label of the way from it.
-use Rattle.std.proofs.Common.{◌≡◌, ℕ, zero, suc, ◌<◌, ◌≤◌, Bool, true, eqb, ltb, T, List, Some, None, Ok, Err, Option, Result, is_some, sym, refl, ap, ◌∙◌, subst, inl, inr, arith, IsTrue}
+use Rattle.std.proofs.Common.{◌≡◌, ℕ, zero, suc, ◌<◌, ◌≤◌, Bool, true, eqb, ltb, T, List, Some, None, Ok, Err, Option, is_some, sym, refl, ◌∙◌, subst, inl, inr, arith, IsTrue}
 use Rattle.std.proofs.lemmas.Bool.{cases_eq, cond-true, cond-false, lt-ltb, eq-eqb, ne_eqb}
-use Rattle.std.proofs.lemmas.Option.{none-some, same_Some}
-use Rattle.std.specs.Result.{result_ok}
 use Rattle.refusals.specs.declared.Refusal.TheVariants.{NoPose}
 use Rattle.feeders.proofs.Sets.{T_of_true}
 use Rattle.graphs.specs.Graph.{Graph, Sound, is_goal}
@@ -61,11 +59,6 @@ pub step_there : (g : Graph) (s v d : ℕ) (o : Option (ℕ × ℕ)) → v < g.n
 step_there g s v d (Some a) l n q f = refl
 step_there g s v zero None l n q f = absurd (n (distance_zero g s v q))
 step_there g s v (suc d) None l n q f = absurd (f d l q)
-
--- what `ok` answers of a value
-pub answered : {A E : Type 0} (r : Result A E) (x : A) → Some x ≡ result_ok r → r ≡ Ok x
-answered (Ok y) x e = ap Ok (sym (same_Some x y e))
-answered (Err d) x e = absurd (none-some x (sym e))
 
 -- what a ground answers of a node that it has
 pub goal_is : (g : Graph) (v : ℕ) (b : Bool) → v < g.nodes → Ok b ≡ is_goal g v → g.goal v ≡ b

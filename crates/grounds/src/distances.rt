@@ -3,6 +3,7 @@ ghost use Rattle.std.specs.Prelude.{◌≡◌, ◌<◌, IsTrue};
 ghost use Rattle.graphs.specs.Certificate.{passes};
 ghost use Rattle.grounds.specs.Reach.{Away, StepsTo, distance_told};
 
+use crate::entries::entry;
 use crate::ground::Ground;
 use crate::levels::Levels;
 use refusals::Refusal;
@@ -20,11 +21,7 @@ impl<'g, G: Ground> Distances<'g, G> {
         ensures at { result.levels.ground.now ≡ ground.now }
         ensures by { result.levels.permitted ≡ permitted }
     {
-        let mut levels = Levels::new(ground, permitted);
-        let mut level = 0;
-        while levels.sweep(level) {
-            level += 1;
-        }
+        let levels = Levels::measure(ground, permitted);
         Distances { levels }
     }
 
@@ -43,15 +40,13 @@ impl<'g, G: Ground> Distances<'g, G> {
         if node >= self.levels.ground.nodes() {
             return Err(Refusal::NoPose);
         }
-        Ok(self.levels.entry(node))
+        Ok(entry(&self.levels.table, node))
     }
 
     // The first label of the way from the node to the nearest goal, and the node that follows; none at a goal, and where no goal is reached.
     pub fn first_label(&self, node: u32) -> Option<(u32, u32)>
         ensures { StepsTo (G.Ground.graph self.now.levels.ground.now) self.now.levels.permitted node result }
     {
-        let away = self.distance(node).ok()??;
-        let label = self.levels.label_to(node, away.checked_sub(1)?)?;
-        Some((label, self.levels.next(node, label)))
+        self.levels.steps().first_label(node)
     }
 }

@@ -1,7 +1,7 @@
 -- What the loop keeps: the table has the nodes up to this level, of which there are fewer than nodes.
 use Rattle.std.proofs.Common.{◌≡◌, ◌-◌}
 use Rattle.grounds.specs.Level.{Level}
-use Rattle.grounds.proofs.distances.Distances.measure.Given as goal
+use Rattle.grounds.proofs.levels.Levels.measure.Given as goal
 
 abbrev pub invariant-loop-level : goal.invariant-loop-level
 invariant-loop-level g l = record {
