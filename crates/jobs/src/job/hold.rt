@@ -15,6 +15,7 @@ impl<F: Feeder> Job<F> {
     pub fn plan(&mut self) -> Answer
         ensures { Performs (F.Feeder.motion self.old.feeder) self.old Plan self.new result }
     {
+        // Straight into the job's plan, which a refusal leaves as it was: a second plan costs 16 KB made and 16 KB copied.
         plan_pairs(&self.feeder, self.allowed, self.poses, &mut self.plan)?;
         self.held = true;
         Ok(Some(self.plan.len()))
@@ -24,6 +25,7 @@ impl<F: Feeder> Job<F> {
     pub fn put(&mut self, list: &[u8]) -> Answer
         ensures { Performs (F.Feeder.motion self.old.feeder) self.old (Put list.entry) self.new result }
     {
+        // Asked before the rest, since the length is refused first; no second plan is filled to find it out.
         if list.len() > ROOM {
             return Err(Refusal::PlanTooLong);
         }
