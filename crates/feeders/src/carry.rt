@@ -5,7 +5,7 @@ ghost use Rattle.feeders.specs.Sets.{all_below};
 ghost use Rattle.feeders.specs.Image.{image as image_of, imaged};
 ghost use Rattle.feeders.specs.Laws.{ImageLaws};
 
-use crate::bits::{all_below, has, is_within};
+use crate::bits::{all_below, has_pose, is_within};
 use crate::feeder::Feeder;
 use refusals::Refusal;
 
@@ -45,7 +45,7 @@ fn gather<F: Feeder>(feeder: &F, set: u32, list: &[u8]) -> u32
 {
     let mut reached = 0;
     for pose in 0..feeder.poses() {
-        if has(set, pose) {
+        if has_pose(set, pose) {
             reached |= 1 << carried(feeder, pose, list);
         }
     }

@@ -1,20 +1,29 @@
 // A gate row as a feeder, and its gates.
 ghost use Rattle.std.specs.Prelude.{◌≡◌, ◌<◌, ◌≤◌};
+ghost use Rattle.feeders.specs.Sets.{has};
 ghost use Rattle.gates.specs.Gates.{gate_motion, turned};
 ghost use Rattle.gates.specs.Held.{gate_at, gates_of};
 ghost use Rattle.gates.specs.Valid.{row_valid};
 
 use crate::gate::Gate;
 use crate::row::GateRow;
-use feeders::{Feeder, has};
+use feeders::Feeder;
 use refusals::Refusal;
+
+// Whether the pose belongs to the set. Not `feeders::has`: each move would pay for its test that the pose is below 32.
+fn belongs(set: u32, pose: u32) -> bool
+    requires { pose < 32 }
+    ensures { result ≡ has set pose }
+{
+    set >> pose & 1 == 1
+}
 
 // Where the gate brings one of `n` poses.
 fn brought(n: u32, gate: Gate, pose: u32) -> u32
     requires { (pose < n) × ((n ≤ 32) × (gate.turn < n)) }
     ensures { result ≡ turned n gate pose }
 {
-    if has(gate.set, pose) {
+    if belongs(gate.set, pose) {
         (pose + gate.turn) % n
     } else {
         pose
