@@ -1,8 +1,9 @@
--- Free cells, counted and found as chains of iterators do.
-use Rattle.std.proofs.Common.{◌≡◌, ℕ, zero, suc, ◌+◌, ◌<◌, ◌≤◌, Bool, true, false, cond, List, [], ◌∷◌, take, None, Some, Option, MatchOption, refl, arith}
+-- Free cells, counted one by one, and as a chain of iterators does.
+use Rattle.std.proofs.Common.{◌≡◌, ℕ, zero, suc, ◌+◌, Bool, true, false, cond, List, [], ◌∷◌, length, get_or, take, refl, ap, ◌∙◌, add-one, arith}
+use Rattle.std.proofs.lemmas.Bool.{false≢true, true≢false}
 use Rattle.std.proofs.lemmas.List.Sums.{sum_by-cons}
-use Rattle.std.specs.List.{count_by, enumerate_from, filter, slice_get}
-use Rattle.trays.specs.Tray.{frees, cell_of, pose_at}
+use Rattle.std.specs.List.{count_by}
+use Rattle.trays.specs.Tray.{frees, pose_at}
 
 -- the pose at a cell counts the free cells before it
 pub pose_count : (cs : List Bool) (i : ℕ) → pose_at cs i ≡ count_by (λ x. x) (take i cs)
@@ -12,19 +13,35 @@ pose_count (c ∷ cs) zero = refl
 pose_count (true ∷ cs) (suc i) = omega (arith, pose_count cs i, sum_by-cons (λ x. cond x 1 0) true (take i cs))
 pose_count (false ∷ cs) (suc i) = pose_count cs i
 
--- what is found where the cells are numbered from k on: the cell of pose p, or nothing if there is no such pose
-abbrev pub IsNth : ℕ → List Bool → ℕ → Option (ℕ × Bool) → Type 0
-IsNth k cs p o = MatchOption o (frees cs ≤ p) (λ e. (p < frees cs) × (e.0 ≡ k + cell_of cs p))
+-- no cell is before the first
+pub pose_none : (cs : List Bool) → pose_at cs 0 ≡ 0
+pose_none [] = refl
+pose_none (x ∷ cs) = refl
 
--- the same with a cell in front
-next : (o : Option (ℕ × Bool)) (k : ℕ) (cs ds : List Bool) (p q : ℕ) → (frees cs ≤ p → frees ds ≤ q) → (p < frees cs → q < frees ds) → cell_of ds q ≡ suc (cell_of cs p) → IsNth (k + 1) cs p o → IsNth k ds q o
-next None k cs ds p q past has e h = past h
-next (Some x) k cs ds p q past has e h = (has h.0, omega (arith, h.1, e))
+-- a free cell that is passed adds one
+passed : (cs : List Bool) (i : ℕ) → get_or cs i false ≡ true → pose_at cs (suc i) ≡ suc (pose_at cs i)
+passed [] i h = absurd (false≢true h)
+passed (true ∷ cs) zero h = ap suc (pose_none cs)
+passed (false ∷ cs) zero h = absurd (false≢true h)
+passed (true ∷ cs) (suc i) h = ap suc (passed cs i h)
+passed (false ∷ cs) (suc i) h = passed cs i h
 
-pub free_nth : (k : ℕ) (cs : List Bool) (p : ℕ) → IsNth k cs p (slice_get (filter (λ e. e.1) (enumerate_from k cs)) p)
-free_nth k [] zero = omega arith
-free_nth k [] (suc p) = omega arith
-free_nth k (true ∷ cs) zero = (omega arith, omega arith)
-free_nth k (true ∷ cs) (suc p) = next _ k cs (true ∷ cs) p (suc p) (λ h. omega arith) (λ h. omega arith) refl (free_nth (k + 1) cs p)
-free_nth k (false ∷ cs) zero = next _ k cs (false ∷ cs) zero zero (λ h. h) (λ h. h) refl (free_nth (k + 1) cs zero)
-free_nth k (false ∷ cs) (suc p) = next _ k cs (false ∷ cs) (suc p) (suc p) (λ h. h) (λ h. h) refl (free_nth (k + 1) cs (suc p))
+-- and a wall nothing
+past : (cs : List Bool) (i : ℕ) → get_or cs i false ≡ false → pose_at cs (suc i) ≡ pose_at cs i
+past [] i h = refl
+past (true ∷ cs) zero h = absurd (true≢false h)
+past (false ∷ cs) zero h = pose_none cs
+past (true ∷ cs) (suc i) h = ap suc (past cs i h)
+past (false ∷ cs) (suc i) h = past cs i h
+
+pub passed_free : (cs : List Bool) (i : ℕ) → get_or cs i false ≡ true → pose_at cs (i + 1) ≡ suc (pose_at cs i)
+passed_free cs i h = ap (pose_at cs) (add-one i) ∙ passed cs i h
+
+pub passed_wall : (cs : List Bool) (i : ℕ) → get_or cs i false ≡ false → pose_at cs (i + 1) ≡ pose_at cs i
+passed_wall cs i h = ap (pose_at cs) (add-one i) ∙ past cs i h
+
+-- past the last cell all are counted
+pub passed_all : (cs : List Bool) → pose_at cs (length cs) ≡ frees cs
+passed_all [] = refl
+passed_all (true ∷ cs) = ap suc (passed_all cs)
+passed_all (false ∷ cs) = passed_all cs

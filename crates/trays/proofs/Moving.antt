@@ -1,10 +1,8 @@
 -- From a pose to the cell where its slide ends, and to the pose there.
-use Rattle.std.proofs.Common.{◌≡◌, ℕ, zero, suc, ◌+◌, ◌*◌, ◌/◌, ◌%◌, ◌<◌, ◌≤◌, Bool, true, false, T, ◌⊎◌, ltb, get_or, add-zero, Ok, None, Some, Option, Bor, MatchOption, unwrap_or, sym, ap, ◌∙◌, subst, inl, inr, arith}
+use Rattle.std.proofs.Common.{◌≡◌, ℕ, zero, suc, ◌+◌, ◌*◌, ◌/◌, ◌%◌, ◌<◌, ◌≤◌, true, false, T, ◌⊎◌, ltb, get_or, add-zero, Ok, None, Some, Option, MatchOption, unwrap_or, sym, ap, ◌∙◌, subst, inl, inr, arith}
 use Rattle.std.proofs.lemmas.Nat.{div_below, mod_below, div-add-mod'}
 use Rattle.std.proofs.Math.Nat.{sub-zero}
 use Rattle.std.proofs.lemmas.Bool.{cond-true, lt-ltb}
-use Rattle.std.specs.List.{enumerate_from, filter, slice_get}
-use Rattle.std.specs.Option.{IsSomeAnd, option_map}
 use Rattle.feeders.specs.Motion.{follows}
 use Rattle.trays.specs.declared.cell.Cell.{Cell}
 use Rattle.trays.specs.declared.direction.Direction.{Direction}
@@ -14,7 +12,6 @@ use Rattle.trays.specs.Cells.{cell_in, cell_free, pose_in}
 use Rattle.trays.specs.Directions.{tilt_of}
 use Rattle.trays.specs.Sliding.{ahead-free, far_off, free_in, held, holds, here_free}
 use Rattle.trays.specs.Tray.{Grid, Keeps, frees, cell_of, pose_at, free, free_ahead, ahead, Tilts, tray_motion}
-use Rattle.trays.proofs.Counting.{IsNth, free_nth}
 use Rattle.trays.proofs.Passing.{IsLastPassed}
 use Rattle.trays.proofs.Relation.{cell_pose, motion_tilts, tilts_once}
 
@@ -28,18 +25,6 @@ index_poses t k i p h e = record {
   at = div-add-mod' i t.columns ∙ e;
   pose = h;
 }
-
--- the cell that is found has the pose, and none is found where there is no such pose
-pub found_poses : (t : Grid) → Keeps t → (p : ℕ) (o : Option (ℕ × Bor Bool)) (r : Option Cell) (Q : ℕ × Bor Bool → Cell → Type 0)
-    → option_map (λ x. (x.0, x.1.now)) o ≡ slice_get (filter (λ e. e.1) (enumerate_from 0 t.cells)) p
-    → MatchOption o (r ≡ None) (λ x. IsSomeAnd r (Q x))
-    → ((x : ℕ × Bor Bool) (c : Cell) → Q x c → c ≡ record { row = x.0 / t.columns; column = x.0 % t.columns })
-    → MatchOption r (frees t.cells ≤ p) (λ c. HasPose t c p)
-found_poses t k p None r Q e m same = rw m (subst (IsNth 0 t.cells p) (sym e) (free_nth 0 t.cells p))
-found_poses t k p (Some x) None Q e m same = absurd m
-found_poses t k p (Some x) (Some c) Q e m same =
-    let found = subst (IsNth 0 t.cells p) (sym e) (free_nth 0 t.cells p) in
-    subst (λ y. HasPose t y p) (sym (same x c m)) (index_poses t k x.0 p found.0 (omega (arith, found.1)))
 
 -- the cell of a pose is free
 pub pose_free : (t : Grid) (c : Cell) (p : ℕ) → HasPose t c p → free t c.row c.column ≡ true

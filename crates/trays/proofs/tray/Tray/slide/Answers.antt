@@ -1,5 +1,5 @@
 -- The part passes the free cells ahead.
-use Rattle.std.proofs.Common.{rules}
+use Rattle.std.proofs.Common.{refl, rules}
 use borrow.Author.Tests.{tests}
 use Rattle.trays.specs.Cell.{IsFreeAhead}
 use Rattle.trays.specs.Directions.{tilt_of}
@@ -15,4 +15,4 @@ returns c =
     let a = tilt_of c.args.direction in
     rw c.unwrap_or.ensures
     (passed_slides t (held_keeps c.args.self.now) a c.args.start c.last.result c.requires
-    (last_passed (IsFreeAhead t a c.args.start) c.new.result c.map_while.result c.last.result c.new.ensures.start c.new.ensures.end c.new.ensures.exhausted c.map_while.ensures.runs c.last.ensures.runs (λ x o q k. search (rules, tests))))
+    (last_passed (IsFreeAhead t a c.args.start) _ c.map_while.result c.last.result refl c.map_while.ensures.runs c.last.ensures.runs (λ x o q k. search (rules, tests))))
