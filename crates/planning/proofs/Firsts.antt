@@ -1,5 +1,5 @@
 -- The first of the pairs that a function gives for numbers.
-use Rattle.std.proofs.Common.{◌≡◌, ℕ, zero, suc, ◌+◌, ◌<◌, ◌≤◌, ◌⊎◌, Some, None, Option, sym, refl, ap, ◌∙◌, subst, inl, inr, arith}
+use Rattle.std.proofs.Common.{◌≡◌, ℕ, zero, suc, ◌+◌, ◌<◌, ◌≤◌, ◌⊎◌, [], Some, None, Option, sym, refl, ap, ◌∙◌, subst, inl, inr, arith}
 use Rattle.std.specs.List.{fold, filter_map, range_with_len, reduce, cons_option}
 use Rattle.std.specs.Ordering.{MatchOrdering, nat_cmp, ordering_then, min_by_ordering}
 use Rattle.std.specs.declared.cmp.Ordering.{Ordering}
@@ -8,7 +8,7 @@ use Rattle.std.proofs.lemmas.Cmp.{ranked}
 use Rattle.std.proofs.lemmas.Bool.{cases_eq}
 use Rattle.std.proofs.lemmas.Option.{none-some, same_Some}
 use Rattle.planning.specs.declared.nearest.Pair.{Pair}
-use Rattle.planning.specs.Nearest.{first_of}
+use Rattle.planning.specs.Nearest.{first_of, nearer_of}
 
 -- a is b, or it comes before b
 abbrev pub Before : Pair → Pair → Type 0
@@ -117,3 +117,31 @@ module _ (h : ℕ → Option Pair) where
             | inl q ↦ record { at = a; low = omega arith; high = omega arith; is = e ∙ ap Some (sym q); first = first }
             | inr q ↦ record { at = q.0; low = omega (arith, q.1); high = omega (arith, q.2); is = q.3; first = first }
           ]
+
+  -- one number more, j
+  folded : (n a j : ℕ) (m : Pair) → a + n ≡ j → Some (fold first_of m (filter_map h (range_with_len a (suc n)))) ≡ nearer_of (Some (fold first_of m (filter_map h (range_with_len a n)))) (h j)
+  folded zero a j m e = subst (λ (k : ℕ). Some (fold first_of m (cons_option (h a) [])) ≡ nearer_of (Some m) (h k)) (omega (arith, e)) (go (h a))
+    where
+      go : (o : Option Pair) → Some (fold first_of m (cons_option o [])) ≡ nearer_of (Some m) o
+      go None = refl
+      go (Some y) = refl
+  folded (suc n) a j m e = go (λ x. folded n (a + 1) j x (omega (arith, e))) (h a)
+    where
+      go : ((x : Pair) → Some (fold first_of x (filter_map h (range_with_len (a + 1) (suc n)))) ≡ nearer_of (Some (fold first_of x (filter_map h (range_with_len (a + 1) n)))) (h j)) → (o : Option Pair) → Some (fold first_of m (cons_option o (filter_map h (range_with_len (a + 1) (suc n))))) ≡ nearer_of (Some (fold first_of m (cons_option o (filter_map h (range_with_len (a + 1) n))))) (h j)
+      go again None = again m
+      go again (Some y) = again (first_of m y)
+
+  reduced : (n a j : ℕ) → a + n ≡ j → reduce first_of (filter_map h (range_with_len a (suc n))) ≡ nearer_of (reduce first_of (filter_map h (range_with_len a n))) (h j)
+  reduced zero a j e = subst (λ (k : ℕ). reduce first_of (cons_option (h a) []) ≡ h k) (omega (arith, e)) (go (h a))
+    where
+      go : (o : Option Pair) → reduce first_of (cons_option o []) ≡ o
+      go None = refl
+      go (Some y) = refl
+  reduced (suc n) a j e = go (reduced n (a + 1) j (omega (arith, e))) (h a)
+    where
+      go : reduce first_of (filter_map h (range_with_len (a + 1) (suc n))) ≡ nearer_of (reduce first_of (filter_map h (range_with_len (a + 1) n))) (h j) → (o : Option Pair) → reduce first_of (cons_option o (filter_map h (range_with_len (a + 1) (suc n)))) ≡ nearer_of (reduce first_of (cons_option o (filter_map h (range_with_len (a + 1) n)))) (h j)
+      go again None = again
+      go again (Some y) = folded n (a + 1) j y (omega (arith, e))
+
+  pub first_more : (n k a j : ℕ) → a + n ≡ j → k ≡ suc n → (best o : Option Pair) → best ≡ reduce first_of (filter_map h (range_with_len a n)) → o ≡ h j → nearer_of best o ≡ reduce first_of (filter_map h (range_with_len a k))
+  first_more n k a j e more best o is next = let r = reduced n a j e in cc

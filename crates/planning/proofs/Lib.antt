@@ -1,5 +1,6 @@
 pub mod Aims
 pub mod Endings
+pub mod Ends
 pub mod Firsts
 pub mod Pairing
 pub mod Rounds

@@ -19,6 +19,12 @@ pair_of table s p q = cond (has s p && has s q) (option_map (λ d. record { away
 abbrev pub first_of : Pair → Pair → Pair
 first_of a b = min_by_ordering (ordering_then (nat_cmp a.away b.away) (ordering_then (nat_cmp a.p b.p) (nat_cmp a.q b.q))) a b
 
+-- the first of two pairs that may be none
+abbrev pub nearer_of : Option Pair → Option Pair → Option Pair
+nearer_of None b = b
+nearer_of (Some a) None = Some a
+nearer_of (Some a) (Some b) = Some (first_of a b)
+
 -- the first of the pairs with the lesser pose p, and of all pairs
 abbrev pub row_of : List ℕ → ℕ → ℕ → Option Pair
 row_of table s p = reduce first_of (filter_map (pair_of table s p) (range_with_len (p + 1) (32 - (p + 1))))

