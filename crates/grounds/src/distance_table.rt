@@ -33,7 +33,8 @@ pub fn measure<G: Ground>(ground: &G, permitted: u32) -> DistanceTable
     ensures passes { Passes (G.Ground.graph ground.now) permitted result.table }
     ensures count { result.nodes ≡ (G.Ground.graph ground.now).nodes }
 {
-    let levels = Levels::measure(ground, permitted);
+    let mut levels = Levels::new(ground, permitted);
+    levels.fill();
     DistanceTable {
         table: levels.table,
         nodes: ground.nodes(),

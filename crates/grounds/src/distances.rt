@@ -21,7 +21,8 @@ impl<'g, G: Ground> Distances<'g, G> {
         ensures at { result.levels.ground.now ≡ ground.now }
         ensures by { result.levels.permitted ≡ permitted }
     {
-        let levels = Levels::measure(ground, permitted);
+        let mut levels = Levels::new(ground, permitted);
+        levels.fill();
         Distances { levels }
     }
 

@@ -1,6 +1,6 @@
 // The search for distances, level by level.
 ghost use Rattle.std.specs.Prelude.{◌≡◌, ◌<◌};
-ghost use Rattle.graphs.specs.Certificate.{Passes, none, told};
+ghost use Rattle.graphs.specs.Certificate.{Passes, none};
 ghost use Rattle.grounds.specs.Level.{Level, NextIf, Swept, first_entry};
 
 use crate::entries::{NODES, NONE, entry};
@@ -26,36 +26,41 @@ fn first_entry<G: Ground>(ground: &G, node: u32) -> u16
 }
 
 impl<'g, G: Ground> Levels<'g, G> {
-    // Only the goals have a distance, which is 0.
-    fn new(ground: &'g G, permitted: u32) -> Self
+    // No node has a distance yet.
+    pub(crate) fn new(ground: &'g G, permitted: u32) -> Self
         ensures at { result.ground.now ≡ ground.now }
         ensures by { result.permitted ≡ permitted }
-        ensures level { Level (G.Ground.graph ground.now) permitted 0 result.table }
     {
-        let mut levels = Levels {
+        Levels {
             ground,
             permitted,
             table: [NONE; NODES],
-        };
-        // Only the ground's own nodes are asked: to ask at every place of the table costs more than the search itself.
-        for node in 0..ground.nodes() {
-            levels.table[node as usize] = first_entry(ground, node);
         }
-        levels
     }
 
-    // The distances of all nodes.
-    pub(crate) fn measure(ground: &'g G, permitted: u32) -> Self
-        ensures at { result.ground.now ≡ ground.now }
-        ensures by { result.permitted ≡ permitted }
-        ensures passes { Passes (G.Ground.graph ground.now) permitted result.table }
+    // Finds the distances of all nodes, in place: to hand the table from function to function costs more than to fill it.
+    pub(crate) fn fill(&mut self)
+        ensures at { self.new.ground ≡ self.old.ground }
+        ensures by { self.new.permitted ≡ self.old.permitted }
+        ensures passes { Passes (G.Ground.graph self.new.ground.now) self.new.permitted self.new.table }
     {
-        let mut levels = Levels::new(ground, permitted);
+        self.mark_goals();
         let mut level = 0;
-        while levels.sweep(level) {
+        while self.sweep(level) {
             level += 1;
         }
-        levels
+    }
+
+    // Only the goals have a distance, which is 0.
+    fn mark_goals(&mut self)
+        ensures at { self.new.ground ≡ self.old.ground }
+        ensures by { self.new.permitted ≡ self.old.permitted }
+        ensures level { Level (G.Ground.graph self.new.ground.now) self.new.permitted 0 self.new.table }
+    {
+        // Only the ground's own nodes are asked: to ask at every place of the table costs more than the search itself.
+        for node in 0..self.ground.nodes() {
+            self.table[node as usize] = first_entry(self.ground, node);
+        }
     }
 
     // The steps by the distances found so far.
