@@ -41,10 +41,6 @@ impl<T: Copy, const N: usize> Bounded<T, N> {
     pub fn get(&self, place: usize) -> Option<T>
         ensures { result ≡ slice_get (list_of self.now) place }
     {
-        if place < self.length {
-            Some(self.items[place])
-        } else {
-            None
-        }
+        self.as_slice().get(place).copied()
     }
 }
