@@ -14,12 +14,13 @@ impl Cell {
     pub(crate) fn ahead(self, direction: Direction, far: u32) -> Option<Cell>
         ensures { IsAhead self direction far result }
     {
-        let Cell { row, column } = self;
-        match direction {
-            Direction::North => row.checked_sub(far).map(|row| Cell { row, column }),
-            Direction::East => column.checked_add(far).map(|column| Cell { row, column }),
-            Direction::South => row.checked_add(far).map(|row| Cell { row, column }),
-            Direction::West => column.checked_sub(far).map(|column| Cell { row, column }),
-        }
+        // By `?`: with `map` to a cell a tilt took up to 6 in 100 instructions more.
+        let (row, column) = match direction {
+            Direction::North => (self.row.checked_sub(far)?, self.column),
+            Direction::East => (self.row, self.column.checked_add(far)?),
+            Direction::South => (self.row.checked_add(far)?, self.column),
+            Direction::West => (self.row, self.column.checked_sub(far)?),
+        };
+        Some(Cell { row, column })
     }
 }

@@ -60,7 +60,7 @@ impl Tray {
         requires { free (grid_of self.now) start.row start.column ≡ true }
         ensures { SlidesTo (grid_of self.now) (tilt_of direction) start result }
     {
-        // Half open: over `1..=LONGEST_SIDE` each cell took two to three times the instructions.
+        // Half open: over `1..=LONGEST_SIDE` each cell took about twice the instructions.
         (0..LONGEST_SIDE)
             .map_while(|far| self.free_ahead(start, direction, far + 1))
             .last()
