@@ -1,6 +1,6 @@
 // The entries of a table of distances.
-ghost use Rattle.std.specs.Prelude.{◌≡◌, ◌<◌, Some, None};
-ghost use Rattle.graphs.specs.Certificate.{none};
+ghost use Rattle.std.specs.Prelude.{◌≡◌, ◌<◌, ◌==◌, Some, None};
+ghost use Rattle.graphs.specs.Certificate.{none, told};
 ghost use Rattle.grounds.specs.Reach.{entry_of};
 
 // How many nodes a ground has at most.
@@ -16,4 +16,14 @@ pub(crate) fn entry(table: &[u16; NODES], node: u32) -> Option<u32>
 {
     let entry = *table.get(node as usize)?;
     (entry != NONE).then_some(u32::from(entry))
+}
+
+// Whether the table has this distance for the node: one test for the two that `entry` and its answer would take.
+pub(crate) fn tells(table: &[u16; NODES], node: u32, away: u32) -> bool
+    requires { away < none }
+    ensures { result ≡ (told table.now node == away) }
+{
+    table
+        .get(node as usize)
+        .is_some_and(|entry| u32::from(*entry) == away)
 }

@@ -1,12 +1,12 @@
 // Steps on a ground that lead nearer to its goals, by a table of distances.
 ghost use Rattle.std.specs.Prelude.{◌≡◌, ◌<◌, ◌↔◌, IsTrue};
+ghost use Rattle.feeders.specs.Sets.{has};
 ghost use Rattle.graphs.specs.Certificate.{Passes, none};
 ghost use Rattle.grounds.specs.Level.{LeadsTo, LabelFound};
 ghost use Rattle.grounds.specs.Reach.{StepsTo};
 
-use crate::entries::{NODES, entry};
+use crate::entries::{NODES, entry, tells};
 use crate::ground::Ground;
-use feeders::has;
 
 // What a step is found by: the ground, the permitted labels, and the distances.
 #[derive(Drop)]
@@ -14,6 +14,14 @@ pub(crate) struct Steps<'a, G: Ground> {
     pub(crate) ground: &'a G,
     pub(crate) permitted: u32,
     pub(crate) table: &'a [u16; NODES],
+}
+
+// Whether the label belongs to the set. Not `feeders::has`: each step would pay for its test that the label is below 32.
+fn permits(permitted: u32, label: u32) -> bool
+    requires { label < 32 }
+    ensures { result ≡ has permitted label }
+{
+    permitted >> label & 1 == 1
 }
 
 impl<'a, G: Ground> Steps<'a, G> {
@@ -31,7 +39,7 @@ impl<'a, G: Ground> Steps<'a, G> {
         requires some { away < none }
         ensures { IsTrue result ↔ LeadsTo (G.Ground.graph self.now.ground.now) self.now.permitted self.now.table.now node away label }
     {
-        has(self.permitted, label) && entry(self.table, self.next(node, label)) == Some(away)
+        permits(self.permitted, label) && tells(self.table, self.next(node, label), away)
     }
 
     // The lowest permitted label from the node to one at this distance.
