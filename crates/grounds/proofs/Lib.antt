@@ -1,3 +1,4 @@
+pub mod Descents
 pub mod Searches
 pub mod Sweeps
 pub mod Triangle

@@ -34,7 +34,8 @@ pub(crate) fn upper_of(n: u32, node: u32) -> u32
     ensures begun { start result ≤ node }
     ensures lower { node < start result + result }
 {
-    (STARTS[..n as usize].partition_point(|start| u32::from(*start) <= node) - 1) as u32
+    // From the highest, pose by pose: with `partition_point`, a binary search, plans from 16 poses took up to half as long again.
+    (0..n).rev().find(|q| start_of(*q) <= node).unwrap()
 }
 
 // The number of two poses of `n`, in any order; that of two that are the same comes after those of all pairs.
