@@ -1,5 +1,6 @@
 -- What `(a..b).rev().find(f)` passed over: f said no of each number above the one that it found.
-use Rattle.std.proofs.Common.{◌≡◌, ◌+◌, ◌-◌, ◌<◌, ◌≤◌, ℕ, Bool, false, Option, None, Some, MatchOption, IfSome, IsTrue, Bor, option_map, refl, sym, ◌∙◌, subst, arith}
+use Rattle.std.proofs.Common.{◌≡◌, ◌+◌, ◌-◌, ◌<◌, ◌≤◌, ℕ, Bool, false, Option, Some, MatchOption, IfSome, IsTrue, Bor, sym, ◌∙◌, subst, arith}
+use Rattle.std.proofs.lemmas.Iterator.Adapters.{option_map_id}
 use Rattle.std.proofs.iter.runs.Sources.{nat_range_steps_back, range_runs_back}
 use Rattle.std.specs.Fn.{CalledAt}
 use Rattle.std.specs.Iterator.Adapters.{rev_steps}
@@ -8,10 +9,6 @@ use Rattle.std.specs.Option.{IsSomeAnd}
 use Rattle.std.specs.declared.iter.Rev.{Rev}
 use Rattle.std.specs.declared.ops.Range.{Range}
 use denote.Param.Members.{Mut}
-
-same_map : (o : Option ℕ) → option_map (λ y. y) o ≡ o
-same_map None = refl
-same_map (Some x) = refl
 
 pub passed_over : {F : Type 0} {g : Mut F (Bor ℕ × Unit {0}) Bool} {f : F} (range : Range ℕ) (back : Rev (Range ℕ)) (found : Option ℕ) (u : ℕ) (No : ℕ → Type 0)
     → EachRunFrom (rev_steps nat_range_steps_back) back (λ p. SomeRun nat_range_steps_back range (λ q. IsIdenticalRun p q))
@@ -54,4 +51,4 @@ passed_over {g = g} {f = f} range back found u No same run is keeps misses k abo
     back_to_k = omega arith
 
     at_j : p.at j ≡ Some (n - 1 - j)
-    at_j = sym (behind.2.0.2 j) ∙ sym (same_map (q.at j)) ∙ counts.3 j (omega (arith, before, ends.1, behind.2.0.0))
+    at_j = sym (behind.2.0.2 j) ∙ sym (option_map_id (q.at j)) ∙ counts.3 j (omega (arith, before, ends.1, behind.2.0.0))
